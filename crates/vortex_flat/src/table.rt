@@ -1,0 +1,48 @@
+//! Tables.
+
+ghost use Rattle.std.specs.Prelude.{◌≡◌, ◌⊎◌};
+ghost use Rattle.std.specs.Option.{option_map, option_copied};
+ghost use Rattle.vortex_flat.specs.Answers.{Answers};
+ghost use Rattle.vortex_flat.specs.Table.{root_at, table_at};
+ghost use Rattle.vortex_flat.specs.Targets.{table_view, vector_view, number_field, signed_field, table_field, bytes_field, text_field, vector_field, table_place};
+
+use crate::error::FlatError;
+use crate::vector::Vector;
+use std::marker::Model;
+
+/// A table whose vtable and inline part lie in the buffer.
+#[derive(Drop)]
+pub struct Table<'a> {
+    bytes: &'a [u8],
+    place: usize,
+    vtable: usize,
+    vtable_size: usize,
+    inline_size: usize,
+}
+
+impl<'a> Model for Table<'a> {
+    ghost use Rattle.std.specs.Prelude.{◌≡◌, Some};
+    ghost use Rattle.vortex_flat.specs.Table.{table_at};
+    ghost use Rattle.vortex_flat.specs.Targets.{TableView, table_view};
+
+    ghost Value = { TableView };
+
+    ghost view = { λ t. table_view t.bytes.now t.place };
+
+    ghost invariant = { λ t. table_at t.bytes.now t.place ≡ Some (record { place = t.place; vtable = t.vtable; vtable_size = t.vtable_size; inline_size = t.inline_size }) };
+}
+
+/// The table that the buffer begins with the place of.
+pub fn root(bytes: &[u8]) -> Result<Table<'_>, FlatError>
+    ensures { Answers (λ t. t) result (option_map (λ t. table_view bytes.now t.place) (root_at bytes.now)) }
+{
+    Err(FlatError::Outside)
+}
+
+impl<'a> Table<'a> {
+    pub fn place(&self) -> usize
+        ensures { result ≡ self.now.place }
+    {
+        self.place
+    }
+}
