@@ -5,10 +5,9 @@
 #![tactic(auto)]
 
 mod error;
-mod numbers;
 mod table;
 mod vector;
 
 pub use error::FlatError;
-pub use table::{root, Table};
+pub use table::Table;
 pub use vector::Vector;

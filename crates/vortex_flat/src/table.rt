@@ -1,13 +1,7 @@
 //! Tables.
 
-ghost use Rattle.std.specs.Prelude.{◌≡◌, ◌⊎◌};
-ghost use Rattle.std.specs.Option.{option_map, option_copied};
-ghost use Rattle.vortex_flat.specs.Answers.{Answers};
-ghost use Rattle.vortex_flat.specs.Table.{root_at, table_at};
-ghost use Rattle.vortex_flat.specs.Targets.{table_view, vector_view, number_field, signed_field, table_field, bytes_field, text_field, vector_field, table_place};
+ghost use Rattle.std.specs.Prelude.{◌≡◌};
 
-use crate::error::FlatError;
-use crate::vector::Vector;
 use std::marker::Model;
 
 /// A table whose vtable and inline part lie in the buffer.
@@ -30,13 +24,6 @@ impl<'a> Model for Table<'a> {
     ghost view = { λ t. table_view t.bytes.now t.place };
 
     ghost invariant = { λ t. table_at t.bytes.now t.place ≡ Some (record { place = t.place; vtable = t.vtable; vtable_size = t.vtable_size; inline_size = t.inline_size }) };
-}
-
-/// The table that the buffer begins with the place of.
-pub fn root(bytes: &[u8]) -> Result<Table<'_>, FlatError>
-    ensures { Answers (λ t. t) result (option_map (λ t. table_view bytes.now t.place) (root_at bytes.now)) }
-{
-    Err(FlatError::Outside)
 }
 
 impl<'a> Table<'a> {

@@ -1,0 +1,32 @@
+-- Counts of what the outside did. They never fall, and each stands still at the last value of its type.
+use Rattle.std.specs.Prelude.{◌≡◌, ℕ, zero, suc, ◌+◌, ◌-◌, ◌^◌, ◌<◌, ◌≤◌, min, List, length, Result, Ok, Err}
+
+-- a count of 64 bits, and one of 128 bits, after n more
+abbrev pub raised_64 : ℕ → ℕ → ℕ
+raised_64 count n = min (count + n) (2 ^ 64 - 1)
+
+abbrev pub raised_128 : ℕ → ℕ → ℕ
+raised_128 count n = min (count + n) (2 ^ 128 - 1)
+
+-- a count of 64 bits rose, or stands at its last value
+abbrev pub Rose : ℕ → ℕ → Type 0
+Rose before now = raised_64 before 1 ≤ now
+
+-- a count of 128 bits rose by n at least, or stands at its last value
+abbrev pub RoseBy : ℕ → ℕ → ℕ → Type 0
+RoseBy n before now = raised_128 before n ≤ now
+
+-- a read of no byte on a piece that has room: so a source tells its end
+abbrev pub TellsEnd : {E : Type 0} → Result ℕ E → List ℕ → Type 0
+TellsEnd (Ok count) piece = (count ≡ 0) × (0 < length piece)
+TellsEnd (Err e) piece = ⊥
+
+-- what a source of unknown bytes has counted
+pub record SourceCounts : Type 0 where
+  pub reads : ℕ
+  pub given : ℕ
+  pub ends : ℕ
+  pub faults : ℕ
+
+abbrev pub no_counts : SourceCounts
+no_counts = record { reads = 0; given = 0; ends = 0; faults = 0 }

@@ -1,0 +1,50 @@
+//! Where bytes go.
+
+ghost use Rattle.std.specs.Prelude.{◌≡◌, ℕ, ◌<◌, ◌≤◌, List, Option, length, take, IfOk, OnOk, OnErr};
+ghost use Rattle.std.specs.Io.KnownBytes.{WriteAppends, Appends, Keeps};
+ghost use Rattle.vortex_ipc.specs.Counts.{Rose};
+
+/// A write or a flush that failed. Why, the sink alone knows.
+#[derive(Clone, Copy, Debug, PartialEq, Eq)]
+pub struct SinkFailed;
+
+/// Where bytes go: a file, a pipe, memory.
+pub trait Sink {
+    /// The bytes that were written, where the sink tells them.
+    ghost written: { Self → Option (List ℕ) };
+
+    /// How often a call has failed, up to `u64::MAX`.
+    ghost faults: { Self → ℕ };
+
+    /// Takes bytes from the front of `piece`, at least one where there is one, and tells how many.
+    fn write(&mut self, piece: &[u8]) -> Result<usize, SinkFailed>
+        ensures bound { IfOk result (λ count. count ≤ length piece.now) }
+        ensures progress { IfOk result (λ count. 0 < length piece.now → 0 < count) }
+        ensures bytes { WriteAppends (written self.old) (written self.new) result piece.now }
+        ensures fault { OnErr result (Rose (faults self.old) (faults self.new)) }
+        ensures later { faults self.old ≤ faults self.new };
+
+    /// Hands on what was written so far.
+    fn flush(&mut self) -> Result<(), SinkFailed>
+        ensures kept { Keeps (written self.old) (written self.new) }
+        ensures fault { OnErr result (Rose (faults self.old) (faults self.new)) }
+        ensures later { faults self.old ≤ faults self.new };
+}
+
+/// Writes all of `bytes`. Each write is handed all that is left, and none is made for nothing.
+///
+/// After a fault some of the bytes were written, from their front, and not all.
+pub fn write_all<K: Sink>(sink: &mut K, bytes: &[u8]) -> Result<(), SinkFailed>
+    ensures all { OnOk result (Appends (K.written sink.old) (K.written sink.new) bytes.now) }
+    ensures part { OnErr result ((count : ℕ) × (count < length bytes.now)
+        × Appends (K.written sink.old) (K.written sink.new) (take count bytes.now)) }
+    ensures fault { OnErr result (Rose (K.faults sink.old) (K.faults sink.new)) }
+    ensures later { K.faults sink.old ≤ K.faults sink.new }
+{
+    let mut rest = bytes;
+    while !rest.is_empty() {
+        let count = sink.write(rest)?;
+        rest = rest.split_at(count).1;
+    }
+    Ok(())
+}

@@ -1,0 +1,123 @@
+//! Real sources and sinks. What they give and take is not known to any contract.
+
+ghost use Rattle.std.specs.Prelude.{◌≡◌};
+ghost use Rattle.vortex_ipc.specs.Counts.{no_counts};
+
+use crate::sink::{Sink, SinkFailed};
+use crate::source::{Source, SourceFailed};
+use std::io::{Read, Write};
+use std::marker::Model;
+
+/// A reader of the standard library as a source. It tells no bytes.
+#[derive(Drop)]
+pub struct ReadSource<R> {
+    inner: R,
+    reads: u128,
+    given: u128,
+    ends: u64,
+    faults: u64,
+}
+
+impl<R> Model for ReadSource<R> {
+    ghost use Rattle.vortex_ipc.specs.Counts.{SourceCounts};
+
+    ghost Value = { SourceCounts };
+
+    ghost view = { λ s. record { reads = s.reads; given = s.given; ends = s.ends; faults = s.faults } };
+}
+
+impl<R: Read> ReadSource<R> {
+    pub fn new(inner: R) -> ReadSource<R>
+        ensures { result ≡ no_counts }
+    {
+        ReadSource {
+            inner,
+            reads: 0,
+            given: 0,
+            ends: 0,
+            faults: 0,
+        }
+    }
+}
+
+impl<R: Read> Source for ReadSource<R> {
+    ghost use Rattle.std.specs.Prelude.{None};
+
+    ghost rest = { λ _. None };
+
+    ghost faults = { λ s. s.faults };
+
+    ghost ends = { λ s. s.ends };
+
+    ghost given = { λ s. s.given };
+
+    ghost reads = { λ s. s.reads };
+
+    fn read(&mut self, piece: &mut [u8]) -> Result<usize, SourceFailed> {
+        self.reads = self.reads.saturating_add(1);
+        match self.inner.read(piece) {
+            Ok(count) => {
+                if count == 0 && !piece.is_empty() {
+                    self.ends = self.ends.saturating_add(1);
+                }
+                self.given = self.given.saturating_add(count as u128);
+                Ok(count)
+            }
+            Err(_) => {
+                self.faults = self.faults.saturating_add(1);
+                Err(SourceFailed)
+            }
+        }
+    }
+}
+
+/// A writer of the standard library as a sink. It tells no bytes. A write that takes nothing has failed.
+#[derive(Drop)]
+pub struct WriteSink<W> {
+    inner: W,
+    faults: u64,
+}
+
+impl<W> Model for WriteSink<W> {
+    ghost use Rattle.std.specs.Prelude.{ℕ};
+
+    ghost Value = { ℕ };
+
+    ghost view = { λ s. s.faults };
+}
+
+impl<W: Write> WriteSink<W> {
+    pub fn new(inner: W) -> WriteSink<W>
+        ensures { result ≡ 0 }
+    {
+        WriteSink { inner, faults: 0 }
+    }
+}
+
+impl<W: Write> Sink for WriteSink<W> {
+    ghost use Rattle.std.specs.Prelude.{None};
+
+    ghost written = { λ _. None };
+
+    ghost faults = { λ faults. faults };
+
+    fn write(&mut self, piece: &[u8]) -> Result<usize, SinkFailed> {
+        match self.inner.write(piece) {
+            Ok(count) if count > 0 || piece.is_empty() => Ok(count),
+            _ => {
+                self.faults = self.faults.saturating_add(1);
+                Err(SinkFailed)
+            }
+        }
+    }
+
+    fn flush(&mut self) -> Result<(), SinkFailed> {
+        match self.inner.flush() {
+            Ok(()) => Ok(()),
+            Err(_) => {
+                self.faults = self.faults.saturating_add(1);
+                Err(SinkFailed)
+            }
+        }
+    }
+}
