@@ -1,0 +1,113 @@
+-- The one type of column that this form of the program reads, and which rows a body stands for (this project's own
+-- schemas and body layout over FlatBuffers).
+use Rattle.std.specs.Prelude.{◌≡◌, ℕ, zero, suc, ◌+◌, ◌-◌, ◌*◌, ◌/◌, ◌%◌, ◌^◌, ◌&&◌, ◌==◌, List, [], ◌∷◌, length, take, drop, All, Option, Some, None, ℤ, nat_le, nat_lt, codes, slice_get, if◌then◌else◌}
+use Rattle.std.specs.Option.{option_map, option_flatten}
+use Rattle.std.specs.Int.{w64, cast_signed}
+use Rattle.vortex_flat.specs.Numbers.{little_endian, number}
+use Rattle.vortex_flat.specs.Table.{◌>>=◌, root_at}
+use Rattle.vortex_flat.specs.Targets.{VectorShape, element, number_field, table_field, bytes_field, vector_field}
+use Rattle.vortex_ipc.specs.Header.{or_zero, elements}
+
+-- whole numbers of 64 signed bits, never null
+pub data ColumnType : Type 0 where
+  i64_column : ColumnType
+
+-- The type that the body of a type message stands for. Table DType has 0 kind u8; 1 the table of the kind. Kind 3
+-- is a primitive: 0 ptype u8, which is 7 for I64; 1 nullable u8.
+unfoldable pub column_type_of : List ℕ → Option ColumnType
+column_type_of body = do
+  dtype ← root_at body
+  kind ← or_zero (number_field body dtype.place 0 1)
+  primitive ← option_flatten (table_field body dtype.place 1)
+  ptype ← or_zero (number_field body primitive 0 1)
+  nullable ← or_zero (number_field body primitive 1 1)
+  if kind == 3 && ptype == 7 && nullable == 0 then Some i64_column else None
+
+abbrev pub IsColumnType : List ℕ → ColumnType → Type 0
+IsColumnType body t = column_type_of body ≡ Some t
+
+-- a body is a region of buffers, a flat buffer, and four bytes that are the flat buffer's length
+pub record BodyParts : Type 0 where
+  pub region : List ℕ
+  pub flat : List ℕ
+
+unfoldable pub body_parts : List ℕ → Option BodyParts
+body_parts body = do
+  len ← number body (length body - 4) 4
+  let start : ℕ = length body - 4 - len
+  if nat_le (len + 4) (length body) then Some (record { region = take start body; flat = take len (drop start body) }) else None
+
+-- A record of 8 bytes, read as one number, tells a buffer: 2 bytes of padding before it, an alignment exponent, a
+-- compression, and 4 bytes of its length.
+abbrev pub padding_of : ℕ → ℕ
+padding_of n = n % 2 ^ 16
+
+abbrev pub compression_of : ℕ → ℕ
+compression_of n = n / 2 ^ 24 % 256
+
+abbrev pub length_of : ℕ → ℕ
+length_of n = n / 2 ^ 32
+
+-- the buffers stand in the region in order, each behind its padding, and none is compressed
+unfoldable pub buffers_in : List ℕ → List ℕ → Option (List (List ℕ))
+buffers_in region [] = Some []
+buffers_in region (n ∷ records) =
+    if compression_of n == 0 && nat_le (padding_of n + length_of n) (length region)
+    then option_map (λ buffers. take (length_of n) (drop (padding_of n) region) ∷ buffers) (buffers_in (drop (padding_of n + length_of n) region) records)
+    else None
+
+-- the numbers of a vector, and none where it is absent
+abbrev pub numbers_in : List ℕ → ℕ → Option (Option VectorShape) → Option (List ℕ)
+numbers_in b w None = None
+numbers_in b w (Some None) = Some []
+numbers_in b w (Some (Some v)) = elements (λ i. number b (element v i) w) 0 v.count
+
+-- a vector that is absent or has no element
+abbrev pub has_none : Option (Option VectorShape) → Option ℕ
+has_none None = None
+has_none (Some None) = Some 0
+has_none (Some (Some v)) = if v.count == 0 then Some 0 else None
+
+-- the one number of a list
+abbrev pub only_one : List ℕ → Option ℕ
+only_one [] = None
+only_one (n ∷ []) = Some n
+only_one (n ∷ m ∷ ns) = None
+
+-- a node without children that has one buffer: the places of its encoding among the names and of its buffer
+pub record PlainNode : Type 0 where
+  pub encoding : ℕ
+  pub buffer : ℕ
+
+-- Table Node has 0 encoding u16; 1 metadata, bytes; 2 children, a vector of nodes; 3 buffers, a vector of u32.
+unfoldable pub plain_node_at : List ℕ → ℕ → Option PlainNode
+plain_node_at flat p = do
+  encoding ← or_zero (number_field flat p 0 2)
+  metadata ← bytes_field flat p 1
+  no_child ← has_none (vector_field flat p 2 4)
+  buffers ← numbers_in flat 4 (vector_field flat p 3 4)
+  buffer ← only_one buffers
+  Some (record { encoding = encoding; buffer = buffer })
+
+-- n numbers of 64 signed bits, 8 bytes each, the lowest byte first
+abbrev pub i64_values : ℕ → List ℕ → List ℤ
+i64_values zero bytes = []
+i64_values (suc n) bytes = cast_signed w64 (little_endian (take 8 bytes)) ∷ i64_values n (drop 8 bytes)
+
+-- The rows that a body stands for, by one plain node whose encoding is a place among so many names. The root of the
+-- flat buffer has 0 the root node; 1 a vector of records of 8 bytes, one for each buffer.
+unfoldable pub plain_rows_of : ℕ → ℕ → List ℕ → Option (List ℤ)
+plain_rows_of count names body = do
+  parts ← body_parts body
+  root ← root_at parts.flat
+  place ← option_flatten (table_field parts.flat root.place 0)
+  records ← numbers_in parts.flat 8 (vector_field parts.flat root.place 1 8)
+  buffers ← buffers_in parts.region records
+  node ← plain_node_at parts.flat place
+  buffer ← slice_get buffers node.buffer
+  if nat_lt node.encoding names && length buffer == 8 * count then Some (i64_values count buffer) else None
+
+-- the body of an array message, whose header tells the number of rows and the names of encodings, stands for the rows
+pub record IsPlainArray (t : ColumnType) (count : ℕ) (names : List (List ℕ)) (body : List ℕ) (rows : List ℤ) : Type 0 where
+  pub plain : All (λ name. name ≡ codes "vortex.primitive") names
+  pub rows_are : plain_rows_of count (length names) body ≡ Some rows

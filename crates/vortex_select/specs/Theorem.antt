@@ -1,0 +1,20 @@
+-- What a run that answers 0 has done.
+use Rattle.std.specs.Prelude.{◌≡◌, ℕ, List, ℤ, Option}
+use Rattle.vortex_ipc.specs.Stream.{IsStream}
+use Rattle.vortex_select.specs.Column.{ColumnType, IsColumnType, IsPlainArray}
+use Rattle.vortex_select.specs.Selection.{selected, counts_of}
+use Rattle.vortex_select.specs.declared.selection.Query.{Query}
+use Rattle.vortex_select.specs.declared.report.Counts.{Counts}
+
+-- the bytes are a stream standing for a column type and arrays of rows
+abbrev pub IsColumnStream : List ℕ → ColumnType → List (List ℤ) → Type 0
+IsColumnStream = IsStream IsColumnType IsPlainArray
+
+-- The input is a stream, the output a stream of the same type and, array for array, exactly the selected rows, and
+-- the counts are theirs.
+pub record Selects (query : Query) (input output : List ℕ) (counts : Counts) : Type 0 where
+  pub column : ColumnType
+  pub arrays : List (List ℤ)
+  pub read : IsColumnStream input column arrays
+  pub appended : IsColumnStream output column (selected query arrays)
+  pub counts_are : counts ≡ counts_of arrays (selected query arrays)

@@ -1,0 +1,51 @@
+//! The words of the command line.
+
+ghost use Rattle.std.specs.Prelude.{◌≡◌, IfSome, IfNone, codes};
+ghost use Rattle.vortex_select.specs.Words.{texts, operator_word, IsInteger, IsQuery};
+ghost use Rattle.vortex_select.specs.declared.selection.Query.{Query};
+ghost use Rattle.vortex_select.specs.declared.selection.Operator.{Operator};
+ghost use Rattle.std.specs.Prelude.{ℤ};
+
+use crate::selection::{Operator, Query};
+
+/// What the words ask for.
+pub fn query(words: &[String]) -> Option<Query>
+    ensures found { IfSome result (IsQuery (texts words.now)) }
+    ensures none { IfNone result ((query : Query) → IsQuery (texts words.now) query → ⊥) }
+{
+    let [verb, path, operator, literal] = words else {
+        return None;
+    };
+    if verb.as_str() != "select" || path.as_str() != "." {
+        return None;
+    }
+    let operator = operator_named(operator.as_str())?;
+    let constant = integer(literal.as_str().strip_prefix("i64:")?)?;
+    Some(Query { operator, constant })
+}
+
+fn operator_named(word: &str) -> Option<Operator>
+    ensures found { IfSome result (λ operator. word.now ≡ operator_word operator) }
+    ensures none { IfNone result ((operator : Operator) → word.now ≡ operator_word operator → ⊥) }
+{
+    match word {
+        "eq" => Some(Operator::Eq),
+        "ne" => Some(Operator::NotEq),
+        "lt" => Some(Operator::Lt),
+        "le" => Some(Operator::Lte),
+        "gt" => Some(Operator::Gt),
+        "ge" => Some(Operator::Gte),
+        _ => None,
+    }
+}
+
+// Std takes a plus before the digits, which is no spelling here.
+fn integer(text: &str) -> Option<i64>
+    ensures found { IfSome result (IsInteger text.now) }
+    ensures none { IfNone result ((n : ℤ) → IsInteger text.now n → ⊥) }
+{
+    if text.as_bytes().first() == Some(&b'+') {
+        return None;
+    }
+    text.parse::<i64>().ok()
+}
