@@ -1,4 +1,6 @@
 pub mod Answers
+pub mod FlatError
 pub mod Numbers
 pub mod Table
+pub mod Shape
 pub mod Targets

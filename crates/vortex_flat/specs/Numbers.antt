@@ -8,6 +8,10 @@ abbrev pub little_endian : List ℕ → ℕ
 little_endian [] = 0
 little_endian (b ∷ bs) = b + 256 * little_endian bs
 
+-- the w bytes from place i on, where they lie in the buffer
+unfoldable pub piece_at : List ℕ → ℕ → ℕ → Option (List ℕ)
+piece_at b i w = if nat_le (i + w) (length b) then Some (take w (drop i b)) else None
+
 -- the value of the w bytes from place i on, where they lie in the buffer
 unfoldable pub number : List ℕ → ℕ → ℕ → Option ℕ
 number b i w = if nat_le (i + w) (length b) then Some (little_endian (take w (drop i b))) else None

@@ -3,7 +3,7 @@ use Rattle.std.specs.Prelude.{ℕ, ◌+◌, ◌*◌, List, length, take, drop, O
 use Rattle.std.specs.Option.{option_map}
 use Rattle.std.specs.Str.{is_utf8}
 use Rattle.vortex_flat.specs.Numbers.{number, signed_8}
-use Rattle.vortex_flat.specs.Table.{◌>>=◌, TableShape, table_at, field_at}
+use Rattle.vortex_flat.specs.Table.{◌>>=◌, table_at, field_at}
 
 -- f of a field that is there
 abbrev pub if_present : {A B : Type 0} → Option (Option A) → (A → Option B) → Option (Option B)

@@ -5,9 +5,13 @@
 #![tactic(auto)]
 
 mod error;
+mod numbers;
+mod shape;
 mod table;
+mod targets;
 mod vector;
 
 pub use error::FlatError;
-pub use table::Table;
+pub use numbers::u32_at;
+pub use table::{Table, root};
 pub use vector::Vector;

@@ -40,13 +40,24 @@ content_at b p kind =
     else (if kind == 2 then option_map buffer_content (or_zero (number_field b p 0 1))
     else (if kind == 3 then Some type_content else None))
 
--- what header bytes stand for
-unfoldable pub header_of : List ℕ → Option Header
-header_of b = do
+-- what table Message says, where its version is 0: the kind, the place of the table of the kind, the body's size
+pub record MessageTable : Type 0 where
+  pub kind : ℕ
+  pub inner : ℕ
+  pub body_size : ℕ
+
+unfoldable pub message_table_of : List ℕ → Option MessageTable
+message_table_of b = do
   message ← root_at b
   version ← or_zero (number_field b message.place 0 1)
   kind ← or_zero (number_field b message.place 1 1)
   inner ← option_flatten (table_field b message.place 2)
   body_size ← or_zero (number_field b message.place 3 8)
-  content ← content_at b inner kind
-  if version == 0 then Some (record { content = content; body_size = body_size }) else None
+  if version == 0 then Some (record { kind = kind; inner = inner; body_size = body_size }) else None
+
+-- what header bytes stand for
+unfoldable pub header_of : List ℕ → Option Header
+header_of b = do
+  message ← message_table_of b
+  content ← content_at b message.inner message.kind
+  Some (record { content = content; body_size = message.body_size })

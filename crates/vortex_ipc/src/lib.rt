@@ -9,7 +9,7 @@ mod std_io;
 
 pub use error::IpcError;
 pub use memory::{VecSink, VecSource};
-pub use sink::{Sink, SinkFailed, write_all};
+pub use sink::{ShortWrite, Sink, SinkFailed, write_all};
 pub use source::{Source, SourceFailed};
 pub use std_io::{ReadSource, WriteSink};
 

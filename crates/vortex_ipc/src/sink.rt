@@ -1,12 +1,19 @@
 //! Where bytes go.
 
-ghost use Rattle.std.specs.Prelude.{◌≡◌, ℕ, ◌<◌, ◌≤◌, List, Option, length, take, IfOk, OnOk, OnErr};
+ghost use Rattle.std.specs.Prelude.{◌≡◌, ℕ, ◌<◌, ◌≤◌, List, Option, length, take, IfOk, IfErr, OnOk, OnErr};
 ghost use Rattle.std.specs.Io.KnownBytes.{WriteAppends, Appends, Keeps};
 ghost use Rattle.vortex_ipc.specs.Counts.{Rose};
 
 /// A write or a flush that failed. Why, the sink alone knows.
 #[derive(Clone, Copy, Debug, PartialEq, Eq)]
 pub struct SinkFailed;
+
+/// A write of many bytes that failed after some of them.
+#[derive(Clone, Copy, Debug, PartialEq, Eq)]
+pub struct ShortWrite {
+    /// How many bytes were written.
+    pub written: usize,
+}
 
 /// Where bytes go: a file, a pipe, memory.
 pub trait Sink {
@@ -32,19 +39,23 @@ pub trait Sink {
 }
 
 /// Writes all of `bytes`. Each write is handed all that is left, and none is made for nothing.
-///
-/// After a fault some of the bytes were written, from their front, and not all.
-pub fn write_all<K: Sink>(sink: &mut K, bytes: &[u8]) -> Result<(), SinkFailed>
+pub fn write_all<K: Sink>(sink: &mut K, bytes: &[u8]) -> Result<(), ShortWrite>
     ensures all { OnOk result (Appends (K.written sink.old) (K.written sink.new) bytes.now) }
-    ensures part { OnErr result ((count : ℕ) × (count < length bytes.now)
-        × Appends (K.written sink.old) (K.written sink.new) (take count bytes.now)) }
+    ensures short { IfErr result (λ e. (e.written < length bytes.now)
+        × Appends (K.written sink.old) (K.written sink.new) (take e.written bytes.now)) }
     ensures fault { OnErr result (Rose (K.faults sink.old) (K.faults sink.new)) }
     ensures later { K.faults sink.old ≤ K.faults sink.new }
 {
     let mut rest = bytes;
     while !rest.is_empty() {
-        let count = sink.write(rest)?;
-        rest = rest.split_at(count).1;
+        match sink.write(rest) {
+            Ok(count) => rest = rest.split_at(count).1,
+            Err(SinkFailed) => {
+                return Err(ShortWrite {
+                    written: bytes.len() - rest.len(),
+                });
+            }
+        }
     }
     Ok(())
 }

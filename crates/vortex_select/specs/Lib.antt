@@ -1,5 +1,7 @@
 pub mod Words
+pub mod Views
 pub mod Selection
 pub mod Column
+pub mod Decoding
 pub mod Report
 pub mod Theorem

@@ -1,8 +1,9 @@
 -- The status and the note of a run.
-use Rattle.std.specs.Prelude.{ℕ, List, ◌++◌, Option, Some, None, codes, decimal}
+use Rattle.std.specs.Prelude.{◌≡◌, ℕ, List, ◌++◌, Option, Some, None, codes, decimal}
 use Rattle.vortex_select.specs.declared.error.SelectError.{SelectError}
 use Rattle.vortex_select.specs.declared.error.SelectError.TheVariants.{ReadFault, WriteFault, ReadLimit, OutOfMemory, Unbuilt}
 use Rattle.vortex_select.specs.declared.report.Counts.{Counts}
+use Rattle.vortex_select.specs.declared.program.Stopped.{Stopped}
 use Rattle.vortex_select.specs.declared.report.RunFault.{RunFault}
 use Rattle.vortex_select.specs.declared.report.RunFault.TheVariants.{BadWords, Select}
 
@@ -37,3 +38,11 @@ abbrev pub note_of : Counts → Option RunFault → List ℕ
 note_of counts None =
     codes "arrays " ++ decimal counts.arrays ++ codes ", read " ++ decimal counts.read ++ codes ", kept " ++ decimal counts.kept ++ codes "\n"
 note_of counts (Some fault) = codes "error: " ++ name_of fault ++ codes "\n"
+
+abbrev pub no_counts : Counts
+no_counts = record { arrays = 0; read = 0; kept = 0 }
+
+-- an error that came before an array was written
+pub record IsBeforeWriting (error : SelectError) (stopped : Stopped) : Type 0 where
+  pub error_is : stopped.error ≡ error
+  pub counts_are : stopped.counts ≡ no_counts

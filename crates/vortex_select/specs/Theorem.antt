@@ -1,5 +1,5 @@
 -- What a run that answers 0 has done.
-use Rattle.std.specs.Prelude.{◌≡◌, ℕ, List, ℤ, Option}
+use Rattle.std.specs.Prelude.{◌≡◌, ℕ, List, ◌++◌, take, ℤ}
 use Rattle.vortex_ipc.specs.Stream.{IsStream}
 use Rattle.vortex_select.specs.Column.{ColumnType, IsColumnType, IsPlainArray}
 use Rattle.vortex_select.specs.Selection.{selected, counts_of}
@@ -16,5 +16,17 @@ pub record Selects (query : Query) (input output : List ℕ) (counts : Counts) :
   pub column : ColumnType
   pub arrays : List (List ℤ)
   pub read : IsColumnStream input column arrays
-  pub appended : IsColumnStream output column (selected query arrays)
+  pub written : IsColumnStream output column (selected query arrays)
   pub counts_are : counts ≡ counts_of arrays (selected query arrays)
+
+-- A part of such an output, when a write failed: the front of it, in which some arrays lie whole, and the counts are theirs.
+pub record SelectsPart (query : Query) (input part : List ℕ) (counts : Counts) : Type 0 where
+  pub column : ColumnType
+  pub arrays : List (List ℤ)
+  pub output : List ℕ
+  pub more : List ℕ
+  pub whole : ℕ
+  pub read : IsColumnStream input column arrays
+  pub written : IsColumnStream output column (selected query arrays)
+  pub parts : output ≡ part ++ more
+  pub counts_are : counts ≡ counts_of (take whole arrays) (take whole (selected query arrays))

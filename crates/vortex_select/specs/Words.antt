@@ -1,6 +1,7 @@
 -- The words of the command line.
 use Rattle.std.specs.Prelude.{◌≡◌, ◌≢◌, ℕ, List, [], ◌∷◌, ◌++◌, ℤ, map, codes, slice_index, string_bytes, String}
-use Rattle.std.specs.Int.{w64}
+use Rattle.std.specs.Global.{Global}
+
 use Rattle.std.specs.Str.Parse.{IsNumeral, without_leading_sign, signed_digits_value}
 use Rattle.vortex_select.specs.Selection.{FitsI64}
 use Rattle.vortex_select.specs.declared.selection.Operator.{Operator}
@@ -8,7 +9,7 @@ use Rattle.vortex_select.specs.declared.selection.Operator.TheVariants.{Eq, NotE
 use Rattle.vortex_select.specs.declared.selection.Query.{Query}
 
 -- the words as bytes
-abbrev pub texts : List String → List (List ℕ)
+abbrev pub texts : List (String Global) → List (List ℕ)
 texts words = map string_bytes words
 
 -- the word that names an operator

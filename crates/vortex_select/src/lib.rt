@@ -1,12 +1,17 @@
 //! Selects rows of a stream of columns: the top call, and what stands behind each of its answers.
 #![tactic(auto)]
 
+mod decoding;
 mod error;
+mod layout;
 mod note;
+mod program;
 mod reading;
 mod report;
+mod selecting;
 mod selection;
 mod words;
 
 pub use error::SelectError;
+pub use program::run;
 pub use report::{Counts, RunFault, RunReport};

@@ -21,6 +21,15 @@ pub struct Counts {
     pub kept: u128,
 }
 
+impl Counts {
+    /// Of no array.
+    pub const NONE: Counts = Counts {
+        arrays: 0,
+        read: 0,
+        kept: 0,
+    };
+}
+
 /// Why a run ended early.
 #[derive(Clone, Copy, Debug, PartialEq, Eq)]
 pub enum RunFault {

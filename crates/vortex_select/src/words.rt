@@ -1,10 +1,9 @@
 //! The words of the command line.
 
-ghost use Rattle.std.specs.Prelude.{◌≡◌, IfSome, IfNone, codes};
+ghost use Rattle.std.specs.Prelude.{◌≡◌, ◌++◌, ℕ, ℤ, List, IfSome, IfNone, codes};
 ghost use Rattle.vortex_select.specs.Words.{texts, operator_word, IsInteger, IsQuery};
 ghost use Rattle.vortex_select.specs.declared.selection.Query.{Query};
 ghost use Rattle.vortex_select.specs.declared.selection.Operator.{Operator};
-ghost use Rattle.std.specs.Prelude.{ℤ};
 
 use crate::selection::{Operator, Query};
 
@@ -20,7 +19,7 @@ pub fn query(words: &[String]) -> Option<Query>
         return None;
     }
     let operator = operator_named(operator.as_str())?;
-    let constant = integer(literal.as_str().strip_prefix("i64:")?)?;
+    let constant = constant_of(literal.as_str())?;
     Some(Query { operator, constant })
 }
 
@@ -37,6 +36,13 @@ fn operator_named(word: &str) -> Option<Operator>
         "ge" => Some(Operator::Gte),
         _ => None,
     }
+}
+
+fn constant_of(word: &str) -> Option<i64>
+    ensures found { IfSome result (λ n. (text : List ℕ) × (word.now ≡ codes "i64:" ++ text) × IsInteger text n) }
+    ensures none { IfNone result ((text : List ℕ) (n : ℤ) → word.now ≡ codes "i64:" ++ text → IsInteger text n → ⊥) }
+{
+    integer(word.strip_prefix("i64:")?)
 }
 
 // Std takes a plus before the digits, which is no spelling here.

@@ -1,0 +1,4 @@
+pub mod WordsLemmas
+pub mod Framing
+pub mod TypeMessage
+pub mod SelectionLemmas

@@ -1,0 +1,13 @@
+-- What contracts see of the readers' structs.
+use Rattle.std.specs.Prelude.{ℕ, List}
+use Rattle.std.specs.Borrow.{Bor}
+use Rattle.vortex_ipc.specs.Header.{MessageTable}
+use Rattle.vortex_select.specs.declared.decoding.MessageTable.{MessageTable as Read}
+
+-- two slices as lists
+abbrev pub pair_view : Bor (List ℕ) × Bor (List ℕ) → List ℕ × List ℕ
+pair_view p = (p.0.now, p.1.now)
+
+-- the buffer of a header, and what its table says
+abbrev pub message_view : Read → List ℕ × MessageTable
+message_view m = (m.inner.buffer, record { kind = m.kind; inner = m.inner.place; body_size = m.body_size })
