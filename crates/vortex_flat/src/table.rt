@@ -1,6 +1,6 @@
 //! Tables and their fields.
 
-ghost use Rattle.std.specs.Prelude.{◌≡◌, ◌≤◌, ◌⊎◌, Some};
+ghost use Rattle.std.specs.Prelude.{◌≡◌, ◌≤◌, ◌⊎◌, IfOk, IfSome, Some};
 ghost use Rattle.std.specs.Option.{option_copied, option_map};
 ghost use Rattle.vortex_flat.specs.Answers.{Answers};
 ghost use Rattle.vortex_flat.specs.Table.{field_at, root_at};
@@ -169,7 +169,8 @@ impl<'a> Table<'a> {
     /// The vector that field `k` leads to, each of whose elements is `width` bytes wide.
     pub fn field_vector(&self, k: u16, width: usize) -> Result<Option<Vector<'a>>, FlatError>
         requires { (width ≡ 1) ⊎ (width ≡ 4) ⊎ (width ≡ 8) }
-        ensures { Answers (λ x. x) result (option_map (option_map (vector_view self.now.buffer)) (vector_field self.now.buffer self.now.place k width)) }
+        ensures found { Answers (λ x. x) result (option_map (option_map (vector_view self.now.buffer)) (vector_field self.now.buffer self.now.place k width)) }
+        ensures width { IfOk result (λ field. IfSome field (λ vector. vector.shape.width ≡ width)) }
     {
         let Some(place) = self.target(k)? else {
             return Ok(None);

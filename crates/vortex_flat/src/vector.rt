@@ -1,6 +1,6 @@
 //! Vectors.
 
-ghost use Rattle.std.specs.Prelude.{◌≡◌, ◌≤◌, ◌+◌, ◌*◌, ◌<◌, ◌==◌, length, take, drop, Some};
+ghost use Rattle.std.specs.Prelude.{◌≡◌, ◌≤◌, ◌+◌, ◌*◌, ◌<◌, ◌==◌, length, take, drop, IfOk, Some};
 ghost use Rattle.std.specs.Option.{option_map};
 ghost use Rattle.vortex_flat.specs.Answers.{Answers};
 ghost use Rattle.vortex_flat.specs.Numbers.{number};
@@ -36,7 +36,8 @@ impl<'a> Model for Vector<'a> {
 /// The vector at `place`, each of whose elements is `width` bytes wide.
 pub(crate) fn vector_at(bytes: &[u8], place: usize, width: usize) -> Result<Vector<'_>, FlatError>
     requires { width ≤ 8 }
-    ensures { Answers (λ x. x) result (option_map (vector_view bytes.now) (vector_at bytes.now place width)) }
+    ensures found { Answers (λ x. x) result (option_map (vector_view bytes.now) (vector_at bytes.now place width)) }
+    ensures width { IfOk result (λ vector. vector.shape.width ≡ width) }
 {
     let count = u32_at(bytes, place)? as usize;
     let first = place + 4;

@@ -2,3 +2,5 @@ pub mod WordsLemmas
 pub mod Framing
 pub mod TypeMessage
 pub mod SelectionLemmas
+pub mod PlainLoops
+pub mod Fields

@@ -1,6 +1,6 @@
 -- The one type of column that this form of the program reads, and which rows a body stands for (this project's own
 -- schemas and body layout over FlatBuffers).
-use Rattle.std.specs.Prelude.{◌≡◌, ℕ, zero, suc, ◌+◌, ◌-◌, ◌*◌, ◌/◌, ◌%◌, ◌^◌, ◌&&◌, ◌==◌, List, [], ◌∷◌, length, take, drop, All, Option, Some, None, ℤ, nat_le, nat_lt, codes, slice_get, if◌then◌else◌}
+use Rattle.std.specs.Prelude.{◌≡◌, Bool, true, false, ℕ, zero, suc, ◌+◌, ◌-◌, ◌*◌, ◌/◌, ◌%◌, ◌^◌, ◌&&◌, ◌==◌, List, [], ◌∷◌, length, take, drop, All, Option, Some, None, ℤ, nat_le, nat_lt, codes, slice_get, if◌then◌else◌}
 use Rattle.std.specs.Option.{option_map, option_flatten}
 use Rattle.std.specs.Int.{w64, cast_signed}
 use Rattle.vortex_flat.specs.Numbers.{little_endian, number}
@@ -56,23 +56,30 @@ buffers_in region (n ∷ records) =
     then option_map (λ buffers. take (length_of n) (drop (padding_of n) region) ∷ buffers) (buffers_in (drop (padding_of n + length_of n) region) records)
     else None
 
--- the numbers of a vector, and none where it is absent
-abbrev pub numbers_in : List ℕ → ℕ → Option (Option VectorShape) → Option (List ℕ)
-numbers_in b w None = None
-numbers_in b w (Some None) = Some []
-numbers_in b w (Some (Some v)) = elements (λ i. number b (element v i) w) 0 v.count
+-- the numbers of a vector of width 8, and none where it is absent
+abbrev pub records_in : List ℕ → Option (Option VectorShape) → Option (List ℕ)
+records_in b None = None
+records_in b (Some None) = Some []
+records_in b (Some (Some v)) = elements (λ i. number b (element v i) 8) 0 v.count
 
--- a vector that is absent or has no element
-abbrev pub has_none : Option (Option VectorShape) → Option ℕ
-has_none None = None
-has_none (Some None) = Some 0
-has_none (Some (Some v)) = if v.count == 0 then Some 0 else None
+-- the buffer at a place among those that the records tell, all of which stand in the region
+unfoldable pub buffer_in : List ℕ → Option (List ℕ) → ℕ → Option (List ℕ)
+buffer_in region records place = do
+  numbers ← records
+  buffers ← buffers_in region numbers
+  slice_get buffers place
 
--- the one number of a list
-abbrev pub only_one : List ℕ → Option ℕ
-only_one [] = None
-only_one (n ∷ []) = Some n
-only_one (n ∷ m ∷ ns) = None
+-- the one number of a vector of width 4
+abbrev pub only_number : List ℕ → Option (Option VectorShape) → Option ℕ
+only_number b None = None
+only_number b (Some None) = None
+only_number b (Some (Some v)) = if v.count == 1 then number b (element v 0) 4 else None
+
+-- whether a vector is absent or has no element
+abbrev pub has_none : Option (Option VectorShape) → Bool
+has_none None = false
+has_none (Some None) = true
+has_none (Some (Some v)) = v.count == 0
 
 -- a node without children that has one buffer: the places of its encoding among the names and of its buffer
 pub record PlainNode : Type 0 where
@@ -84,30 +91,30 @@ unfoldable pub plain_node_at : List ℕ → ℕ → Option PlainNode
 plain_node_at flat p = do
   encoding ← or_zero (number_field flat p 0 2)
   metadata ← bytes_field flat p 1
-  no_child ← has_none (vector_field flat p 2 4)
-  buffers ← numbers_in flat 4 (vector_field flat p 3 4)
-  buffer ← only_one buffers
-  Some (record { encoding = encoding; buffer = buffer })
+  buffer ← only_number flat (vector_field flat p 3 4)
+  if has_none (vector_field flat p 2 4) then Some (record { encoding = encoding; buffer = buffer }) else None
 
--- n numbers of 64 signed bits, 8 bytes each, the lowest byte first
-abbrev pub i64_values : ℕ → List ℕ → List ℤ
-i64_values zero bytes = []
-i64_values (suc n) bytes = cast_signed w64 (little_endian (take 8 bytes)) ∷ i64_values n (drop 8 bytes)
-
--- The rows that a body stands for, by one plain node whose encoding is a place among so many names. The root of the
--- flat buffer has 0 the root node; 1 a vector of records of 8 bytes, one for each buffer.
-unfoldable pub plain_rows_of : ℕ → ℕ → List ℕ → Option (List ℤ)
-plain_rows_of count names body = do
+-- The buffer of so many rows that a body stands for, by one plain node whose encoding is a place among so many names.
+-- The root of the flat buffer has 0 the root node; 1 a vector of records of 8 bytes, one for each buffer.
+unfoldable pub plain_buffer_of : ℕ → ℕ → List ℕ → Option (List ℕ)
+plain_buffer_of count names body = do
   parts ← body_parts body
   root ← root_at parts.flat
   place ← option_flatten (table_field parts.flat root.place 0)
-  records ← numbers_in parts.flat 8 (vector_field parts.flat root.place 1 8)
-  buffers ← buffers_in parts.region records
   node ← plain_node_at parts.flat place
-  buffer ← slice_get buffers node.buffer
-  if nat_lt node.encoding names && length buffer == 8 * count then Some (i64_values count buffer) else None
+  buffer ← buffer_in parts.region (records_in parts.flat (vector_field parts.flat root.place 1 8)) node.buffer
+  if nat_lt node.encoding names && length buffer == 8 * count then Some buffer else None
+
+-- a number of 64 signed bits, the lowest byte first
+abbrev pub i64_value : List ℕ → ℤ
+i64_value bytes = cast_signed w64 (little_endian bytes)
+
+-- n numbers of 8 bytes each
+abbrev pub i64_values : ℕ → List ℕ → List ℤ
+i64_values zero bytes = []
+i64_values (suc n) bytes = i64_value (take 8 bytes) ∷ i64_values n (drop 8 bytes)
 
 -- the body of an array message, whose header tells the number of rows and the names of encodings, stands for the rows
 pub record IsPlainArray (t : ColumnType) (count : ℕ) (names : List (List ℕ)) (body : List ℕ) (rows : List ℤ) : Type 0 where
   pub plain : All (λ name. name ≡ codes "vortex.primitive") names
-  pub rows_are : plain_rows_of count (length names) body ≡ Some rows
+  pub rows_are : option_map (i64_values count) (plain_buffer_of count (length names) body) ≡ Some rows

@@ -12,14 +12,14 @@ use vortex_flat::{FlatError, Table, root, u32_at};
 
 /// What table `Message` of a header says.
 #[derive(Drop)]
-struct MessageTable<'a> {
-    kind: u8,
-    inner: Table<'a>,
-    body_size: u64,
+pub(crate) struct MessageTable<'a> {
+    pub(crate) kind: u8,
+    pub(crate) inner: Table<'a>,
+    pub(crate) body_size: u64,
 }
 
 /// So many bytes from the front, and those after them.
-fn front(count: u64, bytes: &[u8]) -> Result<(&[u8], &[u8]), FlatError>
+pub(crate) fn front(count: u64, bytes: &[u8]) -> Result<(&[u8], &[u8]), FlatError>
     ensures { Answers pair_view result (front_of count bytes.now) }
 {
     match usize::try_from(count) {
@@ -30,7 +30,7 @@ fn front(count: u64, bytes: &[u8]) -> Result<(&[u8], &[u8]), FlatError>
 
 /// The bytes behind their length in four bytes, and those after them.
 #[tactic(auto, using(vortex_flat::proofs::NumbersLemmas::number_within), unfolding(crate::specs::Decoding::prefixed_of))]
-fn prefixed(bytes: &[u8]) -> Result<(&[u8], &[u8]), FlatError>
+pub(crate) fn prefixed(bytes: &[u8]) -> Result<(&[u8], &[u8]), FlatError>
     ensures { Answers pair_view result (prefixed_of bytes.now) }
 {
     let len = u32_at(bytes, 0)?;
@@ -38,7 +38,7 @@ fn prefixed(bytes: &[u8]) -> Result<(&[u8], &[u8]), FlatError>
 }
 
 #[tactic(auto, unfolding(vortex_ipc::specs::Header::message_table_of))]
-fn message_table(header: &[u8]) -> Result<MessageTable<'_>, FlatError>
+pub(crate) fn message_table(header: &[u8]) -> Result<MessageTable<'_>, FlatError>
     ensures { Answers message_view result (option_map (λ m. (header.now, m)) (message_table_of header.now)) }
 {
     let message = root(header)?;

@@ -5,6 +5,7 @@ mod decoding;
 mod error;
 mod layout;
 mod note;
+mod plain;
 mod program;
 mod reading;
 mod report;

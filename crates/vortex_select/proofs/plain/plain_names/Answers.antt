@@ -1,0 +1,22 @@
+use Rattle.std.proofs.Common.{◌≡◌, ◌≤◌, ◌<◌, ℕ, Bool, true, false, cond, refl, ap, ◌∙◌, arith, rules}
+use Rattle.std.proofs.lemmas.Bool.{le-leb, lt-leb}
+use Rattle.vortex_flat.specs.Targets.{text_element}
+use Rattle.vortex_ipc.specs.Header.{elements}
+use Rattle.vortex_select.specs.Decoding.{is_plain, plain_count}
+use Rattle.vortex_select.proofs.PlainLoops.{names_more, names_fail, names_other, names_end, few}
+use Rattle.vortex_select.proofs.plain.plain_names.Goals as goal
+
+pub returns-then-ne : goal.returns-then-ne
+returns-then-ne c =
+    let names = c.args.names.now in
+    let le : names.shape.count ≤ 65536 = omega arith in
+    let lt : c.loop-i.i < names.shape.count = omega arith in
+    let other : is_plain c.in_ok-str.field-0.now ≡ false = search rules in
+    (refl, few names.shape.count _ le ∙ names_other (text_element names.buffer names.shape) c.loop-i.i names.shape.count c.in_ok-str.field-0.now _ lt c.in_ok-str.ensures other c.loop-i.invariant)
+
+pub loop-i-preserved : goal.loop-i-preserved
+loop-i-preserved c =
+    let names = c.args.names.now in
+    let lt : c.loop-i.i < names.shape.count = omega arith in
+    let plain : is_plain c.in_ok-str.field-0.now ≡ true = search rules in
+    names_more (text_element names.buffer names.shape) c.loop-i.i names.shape.count c.in_ok-str.field-0.now _ lt c.in_ok-str.ensures plain c.loop-i.invariant
