@@ -4,3 +4,4 @@ pub mod TypeMessage
 pub mod SelectionLemmas
 pub mod PlainLoops
 pub mod Fields
+pub mod KeptRows

@@ -1,9 +1,10 @@
 -- The one type of column that this form of the program reads, and which rows a body stands for (this project's own
 -- schemas and body layout over FlatBuffers).
-use Rattle.std.specs.Prelude.{◌≡◌, Bool, true, false, ℕ, zero, suc, ◌+◌, ◌-◌, ◌*◌, ◌/◌, ◌%◌, ◌^◌, ◌&&◌, ◌==◌, List, [], ◌∷◌, length, take, drop, All, Option, Some, None, ℤ, nat_le, nat_lt, codes, slice_get, if◌then◌else◌}
+use Rattle.std.specs.Prelude.{◌≡◌, Bool, true, false, ℕ, zero, suc, ◌+◌, ◌-◌, ◌*◌, ◌/◌, ◌%◌, ◌^◌, ◌&&◌, ◌==◌, List, [], ◌∷◌, length, take, drop, map, All, Option, Some, None, ℤ, nat_le, nat_lt, codes, slice_get, if◌then◌else◌}
 use Rattle.std.specs.Option.{option_map, option_flatten}
-use Rattle.std.specs.Int.{w64, cast_signed}
-use Rattle.vortex_flat.specs.Numbers.{little_endian, number}
+use Rattle.std.specs.Int.{w64, cast_signed, from_le_bytes}
+use Rattle.std.specs.Simd.{first_chunks}
+use Rattle.vortex_flat.specs.Numbers.{number}
 use Rattle.vortex_flat.specs.Table.{◌>>=◌, root_at}
 use Rattle.vortex_flat.specs.Targets.{VectorShape, element, number_field, table_field, bytes_field, vector_field}
 use Rattle.vortex_ipc.specs.Header.{or_zero, elements}
@@ -105,14 +106,13 @@ plain_buffer_of count names body = do
   buffer ← buffer_in parts.region (records_in parts.flat (vector_field parts.flat root.place 1 8)) node.buffer
   if nat_lt node.encoding names && length buffer == 8 * count then Some buffer else None
 
--- a number of 64 signed bits, the lowest byte first
+-- a number of 64 signed bits in 8 bytes, the lowest first
 abbrev pub i64_value : List ℕ → ℤ
-i64_value bytes = cast_signed w64 (little_endian bytes)
+i64_value bytes = cast_signed w64 (from_le_bytes w64 bytes)
 
--- n numbers of 8 bytes each
+-- n of them
 abbrev pub i64_values : ℕ → List ℕ → List ℤ
-i64_values zero bytes = []
-i64_values (suc n) bytes = i64_value (take 8 bytes) ∷ i64_values n (drop 8 bytes)
+i64_values n bytes = map i64_value (first_chunks 8 n bytes)
 
 -- the body of an array message, whose header tells the number of rows and the names of encodings, stands for the rows
 pub record IsPlainArray (t : ColumnType) (count : ℕ) (names : List (List ℕ)) (body : List ℕ) (rows : List ℤ) : Type 0 where

@@ -3,5 +3,6 @@ pub mod Views
 pub mod Selection
 pub mod Column
 pub mod Decoding
+pub mod Layout
 pub mod Report
 pub mod Theorem

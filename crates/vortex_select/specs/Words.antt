@@ -1,7 +1,6 @@
 -- The words of the command line.
 use Rattle.std.specs.Prelude.{◌≡◌, ◌≢◌, ℕ, List, [], ◌∷◌, ◌++◌, ℤ, map, codes, slice_index, string_bytes, String}
 use Rattle.std.specs.Global.{Global}
-
 use Rattle.std.specs.Str.Parse.{IsNumeral, without_leading_sign, signed_digits_value}
 use Rattle.vortex_select.specs.Selection.{FitsI64}
 use Rattle.vortex_select.specs.declared.selection.Operator.{Operator}

@@ -9,6 +9,7 @@ mod plain;
 mod program;
 mod reading;
 mod report;
+mod rows;
 mod selecting;
 mod selection;
 mod words;

@@ -9,7 +9,6 @@ ghost use Rattle.vortex_select.specs.Column.{body_parts, buffer_in, records_in, 
 ghost use Rattle.vortex_select.specs.Decoding.{plain_count, plain_header_of, plain_array_of};
 ghost use Rattle.vortex_select.specs.Views.{pair_view, parts_view, plain_header_view, plain_node_view};
 
-
 use crate::decoding::{front, message_table, prefixed};
 use vortex_flat::{FlatError, Table, Vector, root, u32_at};
 
@@ -96,11 +95,7 @@ fn parts_of(body: &[u8]) -> Result<(&[u8], &[u8]), FlatError>
 }
 
 /// The buffer at `wanted` of those that the records tell, all of which stand in the region.
-fn buffer_at<'a>(
-    records: &Vector,
-    wanted: usize,
-    region: &'a [u8],
-) -> Result<&'a [u8], FlatError>
+fn buffer_at<'a>(records: &Vector, wanted: usize, region: &'a [u8]) -> Result<&'a [u8], FlatError>
     requires { records.now.shape.width ≡ 8 }
     ensures found { Answers (λ buffer. buffer.now) result
         (buffer_in region.now (records_in records.now.buffer (Some (Some records.now.shape))) wanted) }

@@ -1,6 +1,7 @@
 //! What is asked for.
 
 ghost use Rattle.std.specs.Prelude.{◌≡◌};
+ghost use Rattle.std.specs.Ordering.{int_cmp};
 ghost use Rattle.vortex_select.specs.Selection.{bears};
 
 use std::cmp::Ordering;
@@ -37,4 +38,13 @@ impl Operator {
 pub struct Query {
     pub operator: Operator,
     pub constant: i64,
+}
+
+impl Query {
+    /// Whether a row is kept.
+    pub fn keeps(self, row: i64) -> bool
+        ensures { result ≡ bears self.operator (int_cmp row self.constant) }
+    {
+        self.operator.bears(row.cmp(&self.constant))
+    }
 }

@@ -22,12 +22,14 @@ returns-then-compression-ne0-clause-found c =
     let n = c.args.records.now.shape.count in
     let i = c.loop-i.i in
     let lt : i < n = omega arith in
-    let next = picked_next entry_at (option_copied c.loop-i.found) c.loop-i.rest.now i n (c.args.wanted - i) c.u64-entry.result _ lt (sym c.u64-entry.ensures) c.loop-i.invariant.picks in
-    (refl, sym next ∙ picked_fail (option_copied c.loop-i.found) c.u64-entry.result c.loop-i.rest.now (elements entry_at (i + 1) (n - (i + 1))) (c.args.wanted - i)
-        (elim c.then-compression-ne0.branch [
-          | then-compression-ne0-via-then-compression-ne0 w ↦ inl w.if-compression-ne0.true
-          | then-compression-ne0-via-else-compression-ne0+then-rest-padding w ↦ inr w.if-rest-padding.true
-        ]))
+    let next = picked_next entry_at (option_copied c.loop-i.found) c.loop-i.rest.now i n (c.args.wanted - i) c.u64-entry.result _ lt (sym c.u64-entry.ensures) c.loop-i.invariant.picks in (
+      refl,
+      sym next ∙ picked_fail (option_copied c.loop-i.found) c.u64-entry.result c.loop-i.rest.now (elements entry_at (i + 1) (n - (i + 1))) (c.args.wanted - i)
+          (elim c.then-compression-ne0.branch [
+            | then-compression-ne0-via-then-compression-ne0 w ↦ inl w.if-compression-ne0.true
+            | then-compression-ne0-via-else-compression-ne0+then-rest-padding w ↦ inr w.if-rest-padding.true
+          ]),
+    )
 
 pub loop-i-preserved : goal.loop-i-preserved
 loop-i-preserved c =

@@ -24,4 +24,4 @@ pub returns-in_err-constant-clause-none : goal.returns-in_err-constant-clause-no
 returns-in_err-constant-clause-none c =
     let words = four_words c.args.words.now c.verb-item.result c.path-item.result c.operator-item.result c.literal-item.result c.in-len4.len_at_least c.in-len4.len_below c.verb-item.is c.path-item.is c.operator-item.is c.literal-item.is in
     if_none c.from_residual-in_err-constant.result _ (λ q h.
-        c.in_err-constant.ensures.none h.literal q.constant (c.as_str-3.ensures.value ∙ fourth_alike (sym words ∙ h.words_are)) h.constant)
+    c.in_err-constant.ensures.none h.literal q.constant (c.as_str-3.ensures.value ∙ fourth_alike (sym words ∙ h.words_are)) h.constant)
