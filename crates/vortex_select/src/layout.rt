@@ -61,6 +61,14 @@ fn put(bytes: &mut [u8], at: usize, piece: &[u8])
     bytes[at..at + piece.len()].copy_from_slice(piece);
 }
 
+/// The same over the bytes of a vector.
+fn fill(bytes: &mut Vec<u8>, at: usize, piece: &[u8])
+    requires { at + length piece.now ≤ length bytes.old.items }
+    ensures { bytes.new.items ≡ take at bytes.old.items ++ (piece.now ++ drop (at + length piece.now) bytes.old.items) }
+{
+    put(bytes, at, piece);
+}
+
 fn header_of(rows: u32, size: u64) -> [u8; 108]
     ensures { result ≡ array_header rows size }
 {
@@ -96,7 +104,7 @@ pub(crate) fn push_selected(
     out.extend_from_slice(&ARRAY_HEADER)?;
     push_kept(out, query, rows)?;
     let len = out.len() - start - ARRAY_HEADER.len();
-    put(out, start, &header_of((len / 8) as u32, len as u64 + 116));
+    fill(out, start, &header_of((len / 8) as u32, len as u64 + 116));
     push_body_end(out, len as u32)?;
     Ok(len / 8)
 }
