@@ -32,7 +32,7 @@ unfolding piece_at
 piece_len b i w xs e =
     piece_len_if (leb (i + w) (length b)) w (take w (drop i b)) xs (λ t. let le : i + w ≤ length b = leb-true _ _ t in omega (arith, length-take w (drop i b), length-drop i b)) e
 
-spell_1 : (xs : List ℕ) → length xs ≡ 1 → little_endian xs ≡ get_or xs 0 0
+pub spell_1 : (xs : List ℕ) → length xs ≡ 1 → little_endian xs ≡ get_or xs 0 0
 spell_1 [] e = absurd (omega arith)
 spell_1 (a ∷ []) e = omega arith
 spell_1 (a ∷ b ∷ xs) e = absurd (omega arith)
@@ -40,13 +40,13 @@ spell_1 (a ∷ b ∷ xs) e = absurd (omega arith)
 pub number_1 : (b : List ℕ) (i : ℕ) (xs : List ℕ) → piece_at b i 1 ≡ Some xs → number b i 1 ≡ Some (get_or xs 0 0)
 number_1 b i xs e = number_is b i 1 ∙ ap (option_map little_endian) e ∙ ap Some (spell_1 xs (piece_len b i 1 xs e))
 
-spell_2 : (xs : List ℕ) → length xs ≡ 2 → little_endian xs ≡ from_le_bytes w16 (get_or xs 0 0 ∷ get_or xs 1 0 ∷ [])
+pub spell_2 : (xs : List ℕ) → length xs ≡ 2 → little_endian xs ≡ from_le_bytes w16 (get_or xs 0 0 ∷ get_or xs 1 0 ∷ [])
 spell_2 [] e = absurd (omega arith)
 spell_2 (a ∷ []) e = absurd (omega arith)
 spell_2 (a ∷ b ∷ []) e = omega arith
 spell_2 (a ∷ b ∷ c ∷ xs) e = absurd (omega arith)
 
-spell_4 : (xs : List ℕ) → length xs ≡ 4 → little_endian xs ≡ from_le_bytes w32 (get_or xs 0 0 ∷ get_or xs 1 0 ∷ get_or xs 2 0 ∷ get_or xs 3 0 ∷ [])
+pub spell_4 : (xs : List ℕ) → length xs ≡ 4 → little_endian xs ≡ from_le_bytes w32 (get_or xs 0 0 ∷ get_or xs 1 0 ∷ get_or xs 2 0 ∷ get_or xs 3 0 ∷ [])
 spell_4 [] e = absurd (omega arith)
 spell_4 (a ∷ []) e = absurd (omega arith)
 spell_4 (a ∷ b ∷ []) e = absurd (omega arith)
@@ -54,7 +54,7 @@ spell_4 (a ∷ b ∷ c ∷ []) e = absurd (omega arith)
 spell_4 (a ∷ b ∷ c ∷ d ∷ []) e = omega arith
 spell_4 (a ∷ b ∷ c ∷ d ∷ f ∷ xs) e = absurd (omega arith)
 
-spell_8 : (xs : List ℕ) → length xs ≡ 8 → little_endian xs ≡ from_le_bytes w64 (get_or xs 0 0 ∷ get_or xs 1 0 ∷ get_or xs 2 0 ∷ get_or xs 3 0 ∷ get_or xs 4 0 ∷ get_or xs 5 0 ∷ get_or xs 6 0 ∷ get_or xs 7 0 ∷ [])
+pub spell_8 : (xs : List ℕ) → length xs ≡ 8 → little_endian xs ≡ from_le_bytes w64 (get_or xs 0 0 ∷ get_or xs 1 0 ∷ get_or xs 2 0 ∷ get_or xs 3 0 ∷ get_or xs 4 0 ∷ get_or xs 5 0 ∷ get_or xs 6 0 ∷ get_or xs 7 0 ∷ [])
 spell_8 [] e = absurd (omega arith)
 spell_8 (a ∷ []) e = absurd (omega arith)
 spell_8 (a ∷ b ∷ []) e = absurd (omega arith)

@@ -5,3 +5,5 @@ pub mod SelectionLemmas
 pub mod PlainLoops
 pub mod Fields
 pub mod KeptRows
+pub mod ArrayMessage
+pub mod ArrayFound

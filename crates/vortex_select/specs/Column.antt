@@ -95,16 +95,19 @@ plain_node_at flat p = do
   buffer ← only_number flat (vector_field flat p 3 4)
   if has_none (vector_field flat p 2 4) then Some (record { encoding = encoding; buffer = buffer }) else None
 
--- The buffer of so many rows that a body stands for, by one plain node whose encoding is a place among so many names.
--- The root of the flat buffer has 0 the root node; 1 a vector of records of 8 bytes, one for each buffer.
-unfoldable pub plain_buffer_of : ℕ → ℕ → List ℕ → Option (List ℕ)
-plain_buffer_of count names body = do
-  parts ← body_parts body
+-- The buffer of so many rows that the parts of a body stand for, by one plain node whose encoding is a place among so
+-- many names. The root of the flat buffer has 0 the root node; 1 a vector of records of 8 bytes, one for each buffer.
+unfoldable pub plain_buffer_in : ℕ → ℕ → BodyParts → Option (List ℕ)
+plain_buffer_in count names parts = do
   root ← root_at parts.flat
   place ← option_flatten (table_field parts.flat root.place 0)
   node ← plain_node_at parts.flat place
   buffer ← buffer_in parts.region (records_in parts.flat (vector_field parts.flat root.place 1 8)) node.buffer
   if nat_lt node.encoding names && length buffer == 8 * count then Some buffer else None
+
+-- and that a body stands for
+abbrev pub plain_buffer_of : ℕ → ℕ → List ℕ → Option (List ℕ)
+plain_buffer_of count names body = body_parts body >>= plain_buffer_in count names
 
 -- a number of 64 signed bits in 8 bytes, the lowest first
 abbrev pub i64_value : List ℕ → ℤ

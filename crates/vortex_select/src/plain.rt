@@ -151,7 +151,7 @@ fn plain_node(node: &Table) -> Result<PlainNode, FlatError>
 }
 
 /// The buffer of so many rows that a body stands for, by one plain node.
-#[tactic(auto, unfolding(crate::specs::Column::plain_buffer_of))]
+#[tactic(auto, unfolding(crate::specs::Column::plain_buffer_in))]
 fn plain_buffer(rows: u32, names: usize, body: &[u8]) -> Result<&[u8], FlatError>
     ensures found { Answers (λ buffer. buffer.now) result (plain_buffer_of rows names body.now) }
     ensures short { IfOk result (λ buffer. length buffer.now < 2 ^ 32) }
