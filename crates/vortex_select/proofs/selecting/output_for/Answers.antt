@@ -1,10 +1,35 @@
-use Rattle.std.proofs.Common.{◌≡◌, [], arith}
+use Rattle.std.proofs.Common.{◌≡◌, List, ℕ, [], length, sym, subst, arith, rules}
 use Rattle.std.proofs.lemmas.List.{nil_from_length}
 use Rattle.std.proofs.lemmas.Bool.Decides.{nat_tests}
-use Rattle.vortex_select.proofs.SelectionLemmas.{no_arrays}
+use Rattle.vortex_select.specs.Layout.{array_message, kept_region}
+use Rattle.vortex_select.specs.declared.layout.TheConstants.{TYPE_MESSAGE}
+use Rattle.vortex_select.proofs.SelectionLemmas.{Progress, counted, progress_start, progress_more, progress_end, rest_shorter, after_type_shorter}
 use Rattle.vortex_select.proofs.selecting.output_for.Goals as goal
+
+pub loop-rest-init : goal.loop-rest-init
+loop-rest-init c =
+    let query = c.args.query.now in
+    let start = c.in-Ok.rest.now in
+    let bytes : c.extend_from_slice.new.self.items ≡ TYPE_MESSAGE = search rules in
+    record {
+      progress = rw bytes (progress_start query start);
+      short = after_type_shorter c.args.input.now start c.in-Ok.ensures;
+    }
+
+pub loop-rest-smaller : goal.loop-rest-smaller
+loop-rest-smaller c = rest_shorter c.loop-rest.rest.now (c.in-Ok-plain_array.rows.now, c.in-Ok-plain_array.after.now) c.in-Ok-plain_array.ensures.found
+
+pub loop-rest-preserved : goal.loop-rest-preserved
+loop-rest-preserved c =
+    let query = c.args.query.now in
+    let array = c.in-Ok-plain_array in
+    let more = progress_more query c.in-Ok.rest.now c.loop-rest.rest.now c.loop-rest.bytes.items c.loop-rest.counts (array.rows.now, array.after.now) c.loop-rest.invariant.progress array.ensures.found array.ensures.short in
+    record {
+      progress = rw (c.in_ok-kept.ensures.message, c.in_ok-kept.ensures.kept) more;
+      short = c.loop-rest.invariant.short;
+    }
 
 pub returns-clause-selects : goal.returns-clause-selects
 returns-clause-selects c =
-    let none : c.in-Ok.rest.now ≡ [] = nil_from_length _ (grind (arith, nat_tests)) in
-    rw c.in_ok-from_slice.ensures.items (no_arrays c.args.query.now c.args.input.now c.in-Ok.rest.now c.in-Ok.ensures none)
+    let none : c.loop-rest.rest.now ≡ [] = nil_from_length _ (grind (arith, nat_tests)) in
+    progress_end c.args.query.now c.args.input.now c.in-Ok.rest.now c.loop-rest.rest.now c.loop-rest.bytes.items c.loop-rest.counts c.in-Ok.ensures none c.loop-rest.invariant.progress
