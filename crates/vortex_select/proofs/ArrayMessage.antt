@@ -67,7 +67,7 @@ number_behind : (front bytes : List ℕ) (i w : ℕ) → number (front ++ bytes)
 unfolding number
 number_behind front bytes i w =
     number_if _ _ _ _ (leb_by (length front + i + w) (length (front ++ bytes)) (i + w) (length bytes) (λ h. omega (arith, length-append front bytes)) (λ h. omega (arith, length-append front bytes)))
-        (ap (take w) (drop-append-add front bytes i))
+    (ap (take w) (drop-append-add front bytes i))
 
 -- what a body_end is behind: its flat buffer alone
 abbrev pub flat_of : ℕ → List ℕ

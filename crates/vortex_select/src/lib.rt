@@ -17,3 +17,6 @@ mod words;
 pub use error::SelectError;
 pub use program::run;
 pub use report::{Counts, RunFault, RunReport};
+
+#[cfg(test)]
+mod tests;

@@ -1,0 +1,5 @@
+use Rattle.vortex_select.proofs.tests.outcome_of.Given as goal
+
+-- the blank's own ledger
+abbrev pub ghosts-ran : goal.ghosts-ran
+ghosts-ran a = record { name = a.blank.name; parts = a.blank.parts }
