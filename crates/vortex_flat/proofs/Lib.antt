@@ -1,3 +1,12 @@
 pub mod NumbersLemmas
 pub mod TableLemmas
 pub mod TargetsLemmas
+pub mod At
+pub mod Lengths
+pub mod Again
+pub mod ItemLemmas
+pub mod PutLemmas
+pub mod TreesLemmas
+pub mod HangingLemmas
+pub mod Finished
+pub mod ReadsLemmas

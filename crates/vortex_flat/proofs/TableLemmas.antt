@@ -68,7 +68,7 @@ pub guard_some : {A : Type 0} (c : Bool) (x y : A) → cond c (Some x) None ≡ 
 guard_some true x y e = (refl, cc)
 guard_some false x y e = absurd cc
 
-and_split : (a b : Bool) → a && b ≡ true → (a ≡ true) × (b ≡ true)
+pub and_split : (a b : Bool) → a && b ≡ true → (a ≡ true) × (b ≡ true)
 and_split true b e = (refl, e)
 and_split false b e = absurd cc
 

@@ -4,3 +4,12 @@ pub mod Numbers
 pub mod Table
 pub mod Shape
 pub mod Targets
+pub mod Tree
+pub mod Layout
+pub mod Reads
+pub mod TreeCode
+pub mod Item
+pub mod ItemFalls
+pub mod Extent
+pub mod SlotBytes
+pub mod Finish

@@ -3,7 +3,7 @@ use Rattle.std.specs.Prelude.{ℕ, ◌+◌, ◌*◌, List, length, take, drop, O
 use Rattle.std.specs.Option.{option_map}
 use Rattle.std.specs.Str.{is_utf8}
 use Rattle.vortex_flat.specs.Numbers.{number, signed_8}
-use Rattle.vortex_flat.specs.Table.{◌>>=◌, table_at, field_at}
+use Rattle.vortex_flat.specs.Table.{◌>>=◌, root_at, table_at, field_at}
 
 -- f of a field that is there
 abbrev pub if_present : {A B : Type 0} → Option (Option A) → (A → Option B) → Option (Option B)
@@ -29,6 +29,10 @@ target_field b p k = if_present (field_at b p k 4) (follow b)
 -- the place of a table, where one stands there
 abbrev pub table_place : List ℕ → ℕ → Option ℕ
 table_place b p = option_map (λ t. t.place) (table_at b p)
+
+-- the place of the root
+abbrev pub root_place : List ℕ → Option ℕ
+root_place b = option_map (λ t. t.place) (root_at b)
 
 abbrev pub table_field : List ℕ → ℕ → ℕ → Option (Option ℕ)
 table_field b p k = if_present (target_field b p k) (table_place b)

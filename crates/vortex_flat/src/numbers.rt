@@ -32,6 +32,7 @@ pub(crate) fn u16_at(bytes: &[u8], place: usize) -> Result<u16, FlatError>
     Ok(u16::from_le_bytes([piece[0], piece[1]]))
 }
 
+/// The four bytes from `place` on as a number.
 #[tactic(auto, using(crate::proofs::NumbersLemmas::piece_len, crate::proofs::NumbersLemmas::number_4, crate::proofs::NumbersLemmas::no_number, crate::proofs::NumbersLemmas::passes_on))]
 pub fn u32_at(bytes: &[u8], place: usize) -> Result<u32, FlatError>
     ensures { Answers (λ x. x) result (number bytes.now place 4) }

@@ -33,7 +33,8 @@ impl<'a> Model for Table<'a> {
     ghost invariant = { λ t. table_at t.bytes.now t.shape.place ≡ Some (shape_of t.shape) };
 }
 
-/// The table that the buffer begins with the place of.
+/// The table that the buffer begins with the place of. The other readers answer like this one: what stands there, and
+/// [`FlatError::Outside`] where nothing does.
 pub fn root(bytes: &[u8]) -> Result<Table<'_>, FlatError>
     ensures { Answers (λ t. t) result (option_map (λ t. table_view bytes.now t.place) (root_at bytes.now)) }
 {
@@ -58,6 +59,7 @@ impl<'a> Table<'a> {
         let _ = &self.shape;
     }
 
+    /// The place of the table in its buffer.
     pub fn place(&self) -> usize
         ensures { result ≡ self.now.place }
     {
@@ -94,6 +96,7 @@ impl<'a> Table<'a> {
         Ok(Some(follow(self.bytes, place)?))
     }
 
+    /// Field `k`, a number of one byte, and None where it is absent.
     pub fn field_u8(&self, k: u16) -> Result<Option<u8>, FlatError>
         ensures { Answers (λ x. x) result (number_field self.now.buffer self.now.place k 1) }
     {
@@ -103,6 +106,7 @@ impl<'a> Table<'a> {
         Ok(Some(u8_at(self.bytes, place)?))
     }
 
+    /// Field `k`, a number of two bytes.
     pub fn field_u16(&self, k: u16) -> Result<Option<u16>, FlatError>
         ensures { Answers (λ x. x) result (number_field self.now.buffer self.now.place k 2) }
     {
@@ -112,6 +116,7 @@ impl<'a> Table<'a> {
         Ok(Some(u16_at(self.bytes, place)?))
     }
 
+    /// Field `k`, a number of four bytes.
     pub fn field_u32(&self, k: u16) -> Result<Option<u32>, FlatError>
         ensures { Answers (λ x. x) result (number_field self.now.buffer self.now.place k 4) }
     {
@@ -121,6 +126,7 @@ impl<'a> Table<'a> {
         Ok(Some(u32_at(self.bytes, place)?))
     }
 
+    /// Field `k`, a number of eight bytes.
     pub fn field_u64(&self, k: u16) -> Result<Option<u64>, FlatError>
         ensures { Answers (λ x. x) result (number_field self.now.buffer self.now.place k 8) }
     {
@@ -130,6 +136,7 @@ impl<'a> Table<'a> {
         Ok(Some(u64_at(self.bytes, place)?))
     }
 
+    /// Field `k`, a signed byte.
     pub fn field_i8(&self, k: u16) -> Result<Option<i8>, FlatError>
         ensures { Answers (λ x. x) result (signed_field self.now.buffer self.now.place k) }
     {
@@ -139,6 +146,7 @@ impl<'a> Table<'a> {
         Ok(Some(u8_at(self.bytes, place)?.cast_signed()))
     }
 
+    /// The table that field `k` leads to.
     pub fn field_table(&self, k: u16) -> Result<Option<Table<'a>>, FlatError>
         ensures { Answers (λ x. x) result (option_map (option_map (table_view self.now.buffer)) (table_field self.now.buffer self.now.place k)) }
     {
@@ -148,6 +156,7 @@ impl<'a> Table<'a> {
         Ok(Some(Table::at(self.bytes, place)?))
     }
 
+    /// The bytes of the vector that field `k` leads to.
     pub fn field_bytes(&self, k: u16) -> Result<Option<&'a [u8]>, FlatError>
         ensures { Answers option_copied result (bytes_field self.now.buffer self.now.place k) }
     {
@@ -157,6 +166,7 @@ impl<'a> Table<'a> {
         Ok(Some(bytes_at(self.bytes, place)?))
     }
 
+    /// The text that field `k` leads to.
     pub fn field_str(&self, k: u16) -> Result<Option<&'a str>, FlatError>
         ensures { Answers option_copied result (text_field self.now.buffer self.now.place k) }
     {

@@ -60,12 +60,14 @@ impl<'a> Vector<'a> {
         let _ = &self.first;
     }
 
+    /// How many elements there are.
     pub fn len(&self) -> usize
         ensures { result ≡ self.now.shape.count }
     {
         self.count
     }
 
+    /// Whether there is no element.
     pub fn is_empty(&self) -> bool
         ensures { result ≡ (self.now.shape.count == 0) }
     {
@@ -108,6 +110,7 @@ impl<'a> Vector<'a> {
     }
 
     #[tactic(auto, using(crate::proofs::NumbersLemmas::is_read))]
+    /// Element `i`, a number of four bytes.
     pub fn u32(&self, i: usize) -> u32
         requires width { self.now.shape.width ≡ 4 }
         requires index { i < self.now.shape.count }
@@ -117,6 +120,7 @@ impl<'a> Vector<'a> {
     }
 
     #[tactic(auto, using(crate::proofs::NumbersLemmas::is_read))]
+    /// Element `i`, a number of eight bytes.
     pub fn u64(&self, i: usize) -> u64
         requires width { self.now.shape.width ≡ 8 }
         requires index { i < self.now.shape.count }
