@@ -23,7 +23,11 @@ while read -r lines file; do
 done < <(find crates bench bin scripts docs README.md CONTRIBUTING.md -type f -not -path '*/out/*' \
     \( -name '*.rt' -o -name '*.antt' -o -name '*.md' -o -name '*.py' -o -name '*.rs' -o -name '*.sh' \) -print0 | xargs -0 wc -l)
 if command -v python3 >/dev/null; then
-    folder=$(mktemp -d) && python3 -B bench/streams.py "$folder" && diff -rq "$folder" samples || say "samples/ is not what bench/streams.py writes"
+    folder=$(mktemp -d)
+    python3 -B bench/streams.py "$folder"
+    for sample in "$folder"/*; do
+        cmp -s "$sample" "samples/$(basename "$sample")" || say "samples/$(basename "$sample") is not what bench/streams.py writes"
+    done
     rm -rf "$folder"
 fi
 exit "$failed"
