@@ -24,6 +24,7 @@ HERE = os.path.dirname(os.path.abspath(__file__))
 sys.path.insert(0, HERE)
 import streams  # noqa: E402
 
+PROGRAM = os.path.join(HERE, "..", "crates", "vortex", "out", "vortex")
 ROWS_PER_ARRAY = 65_536
 COUNTED_ROWS = 100_000
 WORDS = ["select", ".", "ge", "i64:0"]  # about half of random rows
@@ -122,7 +123,7 @@ def main():
     arguments = argparse.ArgumentParser(description=__doc__, formatter_class=argparse.RawDescriptionHelpFormatter)
     arguments.add_argument("--sizes", default="1000,10000,100000,1000000,10000000")
     arguments.add_argument("--repeat", type=int, default=7)
-    arguments.add_argument("--program", default=os.path.join(HERE, "..", "crates", "vortex", "out", "vortex"))
+    arguments.add_argument("--program", default=PROGRAM)
     chosen = arguments.parse_args()
     if not os.access(chosen.program, os.X_OK):
         sys.exit("the program is not built: run bin/vortex once")
