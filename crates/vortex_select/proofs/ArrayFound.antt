@@ -1,6 +1,6 @@
 -- What the reader of arrays finds is a message of a plain array.
-use Rattle.std.proofs.Common.{◌≡◌, ℕ, suc, ◌+◌, ◌*◌, ◌<◌, ◌≤◌, Bool, true, false, cond, eqb, ltb, List, [], ◌∷◌, ◌++◌, length, take, drop, All, Option, Some, None, refl, sym, ap, subst, ◌∙◌, arith, length-append}
-use Rattle.std.specs.Prelude.{codes, if◌then◌else◌, ◌&&◌}
+use Rattle.std.proofs.Common.{◌≡◌, ℕ, ◌*◌, true, cond, eqb, ltb, List, [], ◌∷◌, ◌++◌, length, take, All, Option, Some, None, refl, sym, ap, subst, ◌∙◌, arith}
+use Rattle.std.specs.Prelude.{codes, ◌&&◌}
 use Rattle.std.specs.Option.{option_map, option_flatten}
 use Rattle.std.specs.List.{list_all, AllByRecursion}
 use Rattle.std.proofs.lemmas.Bool.{eqb-true, and_parts}
@@ -9,11 +9,11 @@ use Rattle.std.proofs.lemmas.List.Elements.{All-from_recursion}
 use Rattle.vortex_flat.specs.Table.{◌>>=◌, root_at}
 use Rattle.vortex_flat.specs.Targets.{number_field, table_field, vector_field}
 use Rattle.vortex_flat.proofs.TableLemmas.{bind_some, guard_some}
-use Rattle.vortex_ipc.specs.Header.{Content, array_content, Header, MessageTable, message_table_of, or_zero, names_in, content_at, header_of}
+use Rattle.vortex_ipc.specs.Header.{Content, array_content, MessageTable, message_table_of, or_zero, names_in, content_at, header_of}
 use Rattle.vortex_ipc.specs.Stream.{IsMessage}
 use Rattle.vortex_select.specs.Column.{i64_column, i64_values, BodyParts, body_parts, buffer_in, records_in, plain_node_at, plain_buffer_in, plain_buffer_of, IsPlainArray}
 use Rattle.vortex_select.specs.Decoding.{front_of, prefixed_of, is_plain, plain_count, PlainHeader, plain_header_of, plain_array_of}
-use Rattle.vortex_select.proofs.Framing.{IsFront, front_found, IsPrefixed, prefixed_found, regroup}
+use Rattle.vortex_select.proofs.Framing.{front_found, prefixed_found, regroup}
 use lib.Pointwise.{bytes_decides}
 
 each_plain : (names : List (List ℕ)) → list_all is_plain names ≡ true → AllByRecursion (λ name. name ≡ codes "vortex.primitive") names

@@ -1,11 +1,11 @@
 -- What the readers of messages find is a message, and what is a message they find.
-use Rattle.std.proofs.Common.{◌≡◌, ℕ, ◌+◌, ◌≤◌, Bool, true, false, cond, eqb, leb, List, [], ◌∷◌, ◌++◌, length, take, drop, Option, Some, None, refl, sym, ap, subst, ◌∙◌, arith, append_assoc, take-append-drop, length-append}
-use Rattle.std.proofs.lemmas.Bool.{leb-true, eqb-true, le-leb}
-use Rattle.std.proofs.lemmas.List.{length-take, length-drop, take_at, drop_at}
+use Rattle.std.proofs.Common.{◌≡◌, ℕ, ◌≤◌, cond, eqb, leb, List, ◌++◌, length, take, drop, Some, None, refl, sym, ap, subst, ◌∙◌, arith, append_assoc, take-append-drop}
+use Rattle.std.proofs.lemmas.Bool.{leb-true, eqb-true}
+use Rattle.std.proofs.lemmas.List.{length-take}
 use Rattle.vortex_flat.specs.Numbers.{little_endian, number}
 use Rattle.vortex_flat.specs.Table.{◌>>=◌}
 use Rattle.vortex_flat.proofs.TableLemmas.{bind_some, guard_some}
-use Rattle.vortex_ipc.specs.Header.{Content, type_content, Header, MessageTable, message_table_of, content_at, header_of}
+use Rattle.vortex_ipc.specs.Header.{type_content, message_table_of, content_at, header_of}
 use Rattle.vortex_ipc.specs.Stream.{IsMessage}
 use Rattle.vortex_select.specs.Column.{ColumnType, i64_column, column_type_of}
 use Rattle.vortex_select.specs.Decoding.{front_of, prefixed_of, type_size_of, after_type_of}

@@ -1,5 +1,5 @@
 -- The loops over the names of a header and over the records of a body, step by step.
-use Rattle.std.proofs.Common.{◌≡◌, ℕ, zero, suc, ◌+◌, ◌-◌, ◌<◌, ◌≤◌, ◌/◌, ◌%◌, ◌^◌, Bool, true, false, cond, eqb, leb, List, [], ◌∷◌, length, take, drop, Option, Some, None, Result, refl, sym, ap, subst, ◌∙◌, arith, inl, inr, ◌⊎◌}
+use Rattle.std.proofs.Common.{◌≡◌, ℕ, suc, ◌+◌, ◌-◌, ◌<◌, ◌≤◌, ◌^◌, Bool, true, false, cond, eqb, leb, List, [], ◌∷◌, length, take, drop, Option, Some, None, Result, refl, sym, ap, ◌∙◌, arith, inl, inr, ◌⊎◌}
 use Rattle.std.specs.Prelude.{slice_get, ◌&&◌}
 use Rattle.std.specs.Option.{option_map, option_copied, ok_or}
 use denote.Ref.{Bor}
@@ -7,7 +7,7 @@ use Rattle.vortex_flat.specs.Answers.{Answers}
 use Rattle.vortex_flat.specs.declared.error.FlatError.{FlatError}
 use Rattle.vortex_flat.specs.declared.error.FlatError.TheVariants.{Outside}
 use Rattle.std.specs.List.{list_all}
-use Rattle.std.proofs.lemmas.Bool.{le-leb, lt-leb, eq-eqb, ne_eqb, and_left, and_right}
+use Rattle.std.proofs.lemmas.Bool.{le-leb, lt-leb, eq-eqb, ne_eqb, and_left}
 use Rattle.vortex_flat.specs.Table.{◌>>=◌}
 use Rattle.vortex_ipc.specs.Header.{elements}
 use Rattle.vortex_select.specs.Column.{padding_of, compression_of, length_of, buffers_in, buffer_in}

@@ -1,21 +1,24 @@
 -- From what was read to what is written.
-use Rattle.std.proofs.Common.{◌≡◌, ℕ, ◌+◌, ◌*◌, ◌/◌, ◌^◌, ◌<◌, ◌≤◌, List, [], ◌∷◌, ◌++◌, length, map, filter, ℤ, Option, Some, None, refl, sym, ap, subst, ◌∙◌, append_assoc, append-nil, length-append, arith}
-use Rattle.std.specs.Prelude.{IfSome, sum_by}
+use Rattle.std.proofs.Common.{◌≡◌, ℕ, ◌+◌, ◌*◌, ◌/◌, ◌^◌, ◌<◌, ◌≤◌, List, [], ◌∷◌, ◌++◌, length, take, filter, ℤ, zero, suc, inl, inr, ◌⊎◌, Option, Some, None, refl, sym, ap, subst, ◌∙◌, append_assoc, append-nil, length-append, arith}
+use Rattle.std.specs.Prelude.{IfSome, sum_by, slice_get}
+use Rattle.std.proofs.Math.Seq.{take-length}
 use Rattle.std.specs.Ordering.{int_cmp}
-use Rattle.std.proofs.lemmas.List.{map-append}
+use Rattle.std.proofs.lemmas.List.{map-append, length-map, take-append-le}
 use Rattle.std.proofs.lemmas.List.Sums.{sum_by-append}
 use Rattle.vortex_ipc.specs.Header.{Content, array_content, type_content}
 use Rattle.vortex_ipc.specs.Stream.{IsMessage, AreArrays}
-use Rattle.vortex_ipc.proofs.StreamLemmas.{MessageBytes, message_bytes, message_append, arrays_append, one_array}
-use Rattle.std.specs.Io.KnownBytes.{Appends}
-use Rattle.vortex_select.specs.Column.{i64_column, i64_values, IsPlainArray}
+use Rattle.vortex_ipc.proofs.StreamLemmas.{message_bytes, message_append, arrays_append, one_array}
+use Rattle.std.specs.Io.KnownBytes.{Appends, Keeps}
+use Rattle.vortex_select.specs.Column.{ColumnType, i64_column, i64_values, IsPlainArray}
 use Rattle.vortex_select.specs.Layout.{array_message, body_end, kept_region}
 use Rattle.vortex_select.specs.Selection.{bears, selected, counts_of}
 use Rattle.vortex_select.specs.Decoding.{after_type_of, plain_array_of}
 use Rattle.vortex_select.specs.Report.{no_counts}
-use Rattle.vortex_select.specs.Theorem.{IsColumnStream, Selects, SelectsPart}
+use Rattle.vortex_select.specs.Theorem.{IsColumnStream, Selects, BeginsWith, SelectsPart}
+use Rattle.vortex_select.specs.Fronts.{IsFront, AreFronts, IsMade, IsLastWithin, Reaches}
 use Rattle.vortex_select.specs.declared.layout.TheConstants.{TYPE_MESSAGE}
 use Rattle.vortex_select.specs.declared.report.Counts.{Counts}
+use Rattle.vortex_select.specs.declared.selecting.Front.{Front}
 use Rattle.vortex_select.specs.declared.selection.Query.{Query}
 use Rattle.vortex_select.proofs.Framing.{after_type_found}
 use Rattle.vortex_select.proofs.ArrayFound.{array_found}
@@ -25,7 +28,7 @@ use Rattle.vortex_select.proofs.TypeMessage.{type_body, type_message_is, type_bo
 
 -- What is done so far of an input's messages of arrays: those at its front are read, and their selected rows are
 -- written behind the message of the type.
-pub record Progress (query : Query) (start rest out : List ℕ) (counts : Counts) : Type 0 where
+pub record Progress (query : Query) (start rest out : List ℕ) (counts : Counts) (fronts : List Front) : Type 0 where
   pub front : List ℕ
   pub tail : List ℕ
   pub arrays : List (List ℤ)
@@ -34,11 +37,13 @@ pub record Progress (query : Query) (start rest out : List ℕ) (counts : Counts
   pub out_is : out ≡ TYPE_MESSAGE ++ tail
   pub written : AreArrays IsPlainArray i64_column tail (selected query arrays)
   pub counts_are : counts ≡ counts_of arrays (selected query arrays)
+  pub fronts_are : AreFronts query i64_column arrays out 1 fronts
+  pub all : length fronts ≡ length arrays
   pub few : counts.arrays ≤ length front
   pub read_bound : counts.read ≤ 2 ^ 32 * counts.arrays
   pub kept_bound : counts.kept ≤ counts.read
 
-pub progress_start : (query : Query) (start : List ℕ) → Progress query start start TYPE_MESSAGE no_counts
+pub progress_start : (query : Query) (start : List ℕ) → Progress query start start TYPE_MESSAGE no_counts []
 progress_start query start = record {
   front = [];
   tail = [];
@@ -48,6 +53,8 @@ progress_start query start = record {
   out_is = refl;
   written = refl;
   counts_are = refl;
+  fronts_are = tt;
+  all = refl;
   few = omega arith;
   read_bound = omega arith;
   kept_bound = omega arith;
@@ -70,9 +77,61 @@ counts_more arrays kept a k =
 own_long : (own body : List ℕ) (content : Content) → IsMessage own content body [] → 1 ≤ length own
 own_long own body content m = omega (arith, ap length m.parts, length-append m.prefix m.header, length-append (m.prefix ++ m.header) body, length-append (m.prefix ++ m.header ++ body) [], m.prefix_len)
 
-pub progress_more : (query : Query) (start rest out : List ℕ) (counts : Counts) (p : List ℕ × List ℕ) → Progress query start rest out counts → plain_array_of rest ≡ Some p → length p.0 < 2 ^ 32
+-- the output so far stands for the rows so far
+out_stands : (query : Query) (out tail : List ℕ) (kept : List (List ℤ)) → out ≡ TYPE_MESSAGE ++ tail → AreArrays IsPlainArray i64_column tail kept → IsColumnStream out i64_column kept
+out_stands query out tail kept e h =
+    let laid : IsMessage (TYPE_MESSAGE ++ tail) type_content type_body ([] ++ tail) = message_append TYPE_MESSAGE type_content type_body [] tail type_message_is in
+    let whole : IsColumnStream (TYPE_MESSAGE ++ tail) i64_column kept = record { body = type_body; rest = tail; message = laid; is_type = type_body_is; are_arrays = h } in
+    subst (λ (l : List ℕ). IsColumnStream l i64_column kept) (sym e) whole
+
+length-selected : (query : Query) (arrays : List (List ℤ)) → length (selected query arrays) ≡ length arrays
+length-selected query arrays = length-map arrays (filter (λ row. bears query.operator (int_cmp row query.constant)))
+
+selected-append : (query : Query) (arrays : List (List ℤ)) (rows : List ℤ) → selected query (arrays ++ rows ∷ []) ≡ selected query arrays ++ filter (λ row. bears query.operator (int_cmp row query.constant)) rows ∷ []
+selected-append query arrays rows = map-append (filter (λ row. bears query.operator (int_cmp row query.constant))) arrays (rows ∷ [])
+
+-- a front stays one when another array is written
+front_stays : (query : Query) (arrays : List (List ℤ)) (rows : List ℤ) (out more : List ℕ) (n : ℕ) (front : Front) → n ≤ length arrays → IsFront query i64_column arrays out n front → IsFront query i64_column (arrays ++ rows ∷ []) (out ++ more) n front
+front_stays query arrays rows out more n front le h =
+    let kept = selected query arrays in
+    let few : n ≤ length kept = omega (arith, length-selected query arrays) in
+    let same_kept : take n (selected query (arrays ++ rows ∷ [])) ≡ take n kept = ap (take n) (selected-append query arrays rows) ∙ take-append-le n kept (filter (λ row. bears query.operator (int_cmp row query.constant)) rows ∷ []) few in
+    let same_arrays : take n (arrays ++ rows ∷ []) ≡ take n arrays = take-append-le n arrays (rows ∷ []) le in
+    let same_out : take front.end (out ++ more) ≡ take front.end out = take-append-le front.end out more h.within in
+    record {
+      within = omega (arith, h.within, length-append out more);
+      stands = subst (λ (l : List ℕ). IsColumnStream l i64_column (take n (selected query (arrays ++ rows ∷ [])))) (sym same_out) (subst (λ (l : List (List ℤ)). IsColumnStream (take front.end out) i64_column l) (sym same_kept) h.stands);
+      counts_are = h.counts_are ∙ sym (ap (λ a. counts_of a (take n (selected query (arrays ++ rows ∷ [])))) same_arrays ∙ ap (counts_of (take n arrays)) same_kept);
+    }
+
+fronts_more : (query : Query) (arrays : List (List ℤ)) (rows : List ℤ) (out more : List ℕ) (n : ℕ) (fronts : List Front) (front : Front) → n + length fronts ≡ length arrays + 1
+    → AreFronts query i64_column arrays out n fronts → IsFront query i64_column (arrays ++ rows ∷ []) (out ++ more) (length arrays + 1) front
+    → AreFronts query i64_column (arrays ++ rows ∷ []) (out ++ more) n (fronts ++ front ∷ [])
+fronts_more query arrays rows out more n [] front e h new =
+    let same : length arrays + 1 ≡ n = omega arith in
+    (subst (λ k. IsFront query i64_column (arrays ++ rows ∷ []) (out ++ more) k front) same new, tt)
+fronts_more query arrays rows out more n (f ∷ fronts) front e h new =
+    (front_stays query arrays rows out more n f (omega arith) h.0, fronts_more query arrays rows out more (suc n) fronts front (omega arith) h.1 new)
+
+-- the front of all that is written so far
+whole_front : (query : Query) (arrays : List (List ℤ)) (out : List ℕ) (counts : Counts) (n len : ℕ) → IsColumnStream out i64_column (selected query arrays) → counts ≡ counts_of arrays (selected query arrays) → n ≡ length arrays → len ≡ length out
+    → IsFront query i64_column arrays out n (record { end = len; counts = counts })
+whole_front query arrays out counts n len stands e same long =
+    let all_out : take len out ≡ out = ap (λ j. take j out) long ∙ take-length out in
+    let all_arrays : take n arrays ≡ arrays = ap (λ j. take j arrays) same ∙ take-length arrays in
+    let n_kept : n ≡ length (selected query arrays) = omega (arith, length-selected query arrays) in
+    let all_kept : take n (selected query arrays) ≡ selected query arrays = ap (λ j. take j (selected query arrays)) n_kept ∙ take-length (selected query arrays) in
+    record {
+      within = omega arith;
+      stands = subst (λ (l : List ℕ). IsColumnStream l i64_column (take n (selected query arrays))) (sym all_out) (subst (λ (l : List (List ℤ)). IsColumnStream out i64_column l) (sym all_kept) stands);
+      counts_are = e ∙ sym (ap (λ a. counts_of a (take n (selected query arrays))) all_arrays ∙ ap (counts_of arrays) all_kept);
+    }
+
+pub progress_more : (query : Query) (start rest out : List ℕ) (counts : Counts) (fronts : List Front) (p : List ℕ × List ℕ) (len : ℕ) → Progress query start rest out counts fronts → plain_array_of rest ≡ Some p → length p.0 < 2 ^ 32
+    → len ≡ length (out ++ array_message (kept_region query p.0))
     → Progress query start p.1 (out ++ array_message (kept_region query p.0)) (counted counts (length p.0 / 8) (length (kept_region query p.0) / 8))
-progress_more query start rest out counts p so_far found short =
+    (fronts ++ record { end = len; counts = counted counts (length p.0 / 8) (length (kept_region query p.0) / 8) } ∷ [])
+progress_more query start rest out counts fronts p len so_far found short len_is =
     let f = array_found rest p found in
     let rows = i64_values f.count p.0 in
     let k = kept_values query p.0 f.count f.len in
@@ -86,15 +145,23 @@ progress_more query start rest out counts p so_far found short =
     let selected_more : selected query so_far.arrays ++ kept_rows ∷ [] ≡ selected query (so_far.arrays ++ rows ∷ []) = sym (map-append (filter (λ row. bears query.operator (int_cmp row query.constant))) so_far.arrays (rows ∷ [])) in
     let read_n : length p.0 / 8 ≡ length rows = omega (arith, length-values f.count p.0, f.len) in
     let kept_n : length region / 8 ≡ length kept_rows = omega (arith, k.len, length-values k.kept region, ap length k.values) in
+    let arrays = so_far.arrays ++ rows ∷ [] in
+    let out_is : out ++ array_message region ≡ TYPE_MESSAGE ++ (so_far.tail ++ array_message region) = ap (λ (l : List ℕ). l ++ array_message region) so_far.out_is ∙ append_assoc TYPE_MESSAGE so_far.tail (array_message region) in
+    let written : AreArrays IsPlainArray i64_column (so_far.tail ++ array_message region) (selected query arrays) = subst (AreArrays IsPlainArray i64_column (so_far.tail ++ array_message region)) selected_more (arrays_append IsPlainArray i64_column so_far.tail (array_message region) (selected query so_far.arrays) (kept_rows ∷ []) so_far.written out_one) in
+    let counts_are : counted counts (length p.0 / 8) (length region / 8) ≡ counts_of arrays (selected query arrays) = ap (λ c. counted c (length p.0 / 8) (length region / 8)) so_far.counts_are ∙ ap (λ n. counted (counts_of so_far.arrays (selected query so_far.arrays)) n (length region / 8)) read_n ∙ ap (counted (counts_of so_far.arrays (selected query so_far.arrays)) (length rows)) kept_n ∙ counts_more so_far.arrays (selected query so_far.arrays) rows kept_rows ∙ ap (counts_of arrays) selected_more in
+    let n : length so_far.arrays + 1 ≡ length arrays = omega (arith, length-append so_far.arrays (rows ∷ [])) in
+    let front = whole_front query arrays (out ++ array_message region) (counted counts (length p.0 / 8) (length region / 8)) (length so_far.arrays + 1) len (out_stands query (out ++ array_message region) (so_far.tail ++ array_message region) (selected query arrays) out_is written) counts_are n len_is in
     record {
       front = so_far.front ++ own.own;
       tail = so_far.tail ++ array_message region;
       arrays = so_far.arrays ++ rows ∷ [];
       parts = so_far.parts ∙ ap (λ (l : List ℕ). so_far.front ++ l) own.parts ∙ sym (append_assoc so_far.front own.own p.1);
       read = arrays_append IsPlainArray i64_column so_far.front own.own so_far.arrays (rows ∷ []) so_far.read in_one;
-      out_is = ap (λ (l : List ℕ). l ++ array_message region) so_far.out_is ∙ append_assoc TYPE_MESSAGE so_far.tail (array_message region);
-      written = subst (AreArrays IsPlainArray i64_column (so_far.tail ++ array_message region)) selected_more (arrays_append IsPlainArray i64_column so_far.tail (array_message region) (selected query so_far.arrays) (kept_rows ∷ []) so_far.written out_one);
-      counts_are = ap (λ c. counted c (length p.0 / 8) (length region / 8)) so_far.counts_are ∙ ap (λ n. counted (counts_of so_far.arrays (selected query so_far.arrays)) n (length region / 8)) read_n ∙ ap (counted (counts_of so_far.arrays (selected query so_far.arrays)) (length rows)) kept_n ∙ counts_more so_far.arrays (selected query so_far.arrays) rows kept_rows ∙ ap (counts_of (so_far.arrays ++ rows ∷ [])) selected_more;
+      out_is = out_is;
+      written = written;
+      counts_are = counts_are;
+      fronts_are = fronts_more query so_far.arrays rows out (array_message region) 1 fronts (record { end = len; counts = counted counts (length p.0 / 8) (length region / 8) }) (omega (arith, so_far.all)) so_far.fronts_are front;
+      all = omega (arith, so_far.all, length-append fronts (let new : Front = record { end = len; counts = counted counts (length p.0 / 8) (length region / 8) } in new ∷ []), n);
       few = omega (arith, so_far.few, length-append so_far.front own.own, own_long own.own f.body (array_content f.count f.names) own.message);
       read_bound = omega (arith, so_far.read_bound);
       kept_bound = omega (arith, so_far.kept_bound, kept_short query p.0);
@@ -115,41 +182,106 @@ after_type_shorter input rest e =
     omega (arith, ap length own.parts, length-append own.own rest)
 
 -- once nothing is left, the whole is done
-pub progress_end : (query : Query) (input start rest out : List ℕ) (counts : Counts) → after_type_of input ≡ Some start → rest ≡ [] → Progress query start rest out counts → Selects query input out counts
-progress_end query input start rest out counts e none so_far =
+pub progress_end : (query : Query) (input start rest out : List ℕ) (counts : Counts) (fronts : List Front) → after_type_of input ≡ Some start → rest ≡ [] → Progress query start rest out counts fronts → IsMade query input out counts fronts
+progress_end query input start rest out counts fronts e none so_far =
     let a = after_type_found input start e in
     let whole : start ≡ so_far.front = so_far.parts ∙ ap (λ (l : List ℕ). so_far.front ++ l) none ∙ append-nil so_far.front in
-    let laid : IsMessage (TYPE_MESSAGE ++ so_far.tail) type_content type_body ([] ++ so_far.tail) = message_append TYPE_MESSAGE type_content type_body [] so_far.tail type_message_is in
-    let output : IsColumnStream (TYPE_MESSAGE ++ so_far.tail) i64_column (selected query so_far.arrays) = record {
-      body = type_body;
-      rest = so_far.tail;
-      message = laid;
-      is_type = type_body_is;
-      are_arrays = so_far.written;
-    } in
     record {
       column = i64_column;
       arrays = so_far.arrays;
       read = record { body = a.body; rest = start; message = a.message; is_type = a.column; are_arrays = subst (λ (l : List ℕ). AreArrays IsPlainArray i64_column l so_far.arrays) (sym whole) so_far.read };
-      written = subst (λ (l : List ℕ). IsColumnStream l i64_column (selected query so_far.arrays)) (sym so_far.out_is) output;
+      written = out_stands query out so_far.tail (selected query so_far.arrays) so_far.out_is so_far.written;
       counts_are = so_far.counts_are;
+      fronts_are = so_far.fronts_are;
+      all = so_far.all;
     }
 
--- a front of such an output in which no array lies whole
-pub part_of : (query : Query) (input output part more : List ℕ) (counts : Counts) → Selects query input output counts → output ≡ part ++ more → SelectsPart query input part no_counts
-part_of query input output part more counts s e = record {
-  column = s.column;
-  arrays = s.arrays;
-  output = output;
-  more = more;
-  whole = 0;
-  read = s.read;
-  written = s.written;
-  parts = e;
-  counts_are = refl;
-}
+-- ---- what was written
+
+pub made_selects : (query : Query) (input output : List ℕ) (counts : Counts) (fronts : List Front) → IsMade query input output counts fronts → Selects query input output counts
+made_selects query input output counts fronts m = record { column = m.column; arrays = m.arrays; read = m.read; written = m.written; counts_are = m.counts_are }
+
+-- the front at a place
+front_at : (query : Query) (column : ColumnType) (arrays : List (List ℤ)) (output : List ℕ) (n i : ℕ) (fronts : List Front) (front : Front) → AreFronts query column arrays output n fronts → slice_get fronts i ≡ Some front → IsFront query column arrays output (n + i) front
+front_at query column arrays output n i [] front h e = absurd cc
+front_at query column arrays output n zero (f ∷ fronts) front h e =
+    let same : f ≡ front = cc in
+    let here : n ≡ n + 0 = omega arith in
+    subst (λ k. IsFront query column arrays output k front) here (subst (IsFront query column arrays output n) same h.0)
+front_at query column arrays output n (suc i) (f ∷ fronts) front h e =
+    let next : suc n + i ≡ n + suc i = omega arith in
+    subst (λ k. IsFront query column arrays output k front) next (front_at query column arrays output (suc n) i fronts front h.1 e)
+
+last_reached : (query : Query) (column : ColumnType) (arrays : List (List ℤ)) (output part : List ℕ) (fronts : List Front) (whole bytes : ℕ) (counts : Counts) → bytes ≡ length part → AreFronts query column arrays output 1 fronts → IsLastWithin fronts bytes whole counts
+    → ((whole ≡ 0) ⊎ ((len : ℕ) × (len ≤ length part) × BeginsWith output column (take whole (selected query arrays)) len)) × (counts ≡ counts_of (take whole arrays) (take whole (selected query arrays)))
+last_reached query column arrays output part fronts zero bytes counts long h last = (inl refl, last)
+last_reached query column arrays output part fronts (suc i) bytes counts long h last =
+    let f = front_at query column arrays output 1 i fronts last.0 h last.1 in
+    let n : 1 + i ≡ suc i = omega arith in
+    let front = subst (λ k. IsFront query column arrays output k last.0) n f in
+    (inr (last.0.end, omega (arith, last.2), record { within = front.within; stands = front.stands }), last.3 ∙ front.counts_are)
+
+pub part_of : (query : Query) (input output part more : List ℕ) (bytes : ℕ) (counts kept : Counts) (fronts : List Front) → IsMade query input output counts fronts → bytes ≡ length part → output ≡ part ++ more → Reaches fronts bytes kept → SelectsPart query input part kept
+part_of query input output part more bytes counts kept fronts m long e r =
+    let last = last_reached query m.column m.arrays output part fronts r.whole bytes kept long m.fronts_are r.last in
+    record {
+      column = m.column;
+      arrays = m.arrays;
+      output = output;
+      more = more;
+      whole = r.whole;
+      read = m.read;
+      written = m.written;
+      parts = e;
+      reached = last.0;
+      no_more = elim r.next [
+        | inl all ↦ inl (all ∙ m.all)
+        | inr next ↦
+            (let f = front_at query m.column m.arrays output 1 r.whole fronts next.0 m.fronts_are next.1 in
+            let n : 1 + r.whole ≡ suc r.whole = omega arith in
+            let front = subst (λ k. IsFront query m.column m.arrays output k next.0) n f in
+            inr (next.0.end, omega (arith, next.2), record { within = front.within; stands = front.stands }))
+      ];
+      counts_are = last.1;
+    }
+
+-- all was written, and the flush failed
+pub all_of : (query : Query) (input output : List ℕ) (counts : Counts) (fronts : List Front) → IsMade query input output counts fronts → SelectsPart query input output counts
+all_of query input output counts fronts m =
+    let n = length m.arrays in
+    let kept = selected query m.arrays in
+    let n_kept : n ≡ length kept = sym (length-selected query m.arrays) in
+    let all_arrays : take n m.arrays ≡ m.arrays = take-length m.arrays in
+    let all_kept : take n kept ≡ kept = ap (λ j. take j kept) n_kept ∙ take-length kept in
+    record {
+      column = m.column;
+      arrays = m.arrays;
+      output = output;
+      more = [];
+      whole = n;
+      read = m.read;
+      written = m.written;
+      parts = sym (append-nil output);
+      reached = inr (
+        length output,
+        omega arith,
+        record {
+          within = omega arith;
+          stands = subst (λ (l : List ℕ). IsColumnStream l m.column (take n kept)) (sym (take-length output)) (subst (λ (l : List (List ℤ)). IsColumnStream output m.column l) (sym all_kept) m.written);
+        },
+      );
+      no_more = inl refl;
+      counts_are = m.counts_are ∙ sym (ap (λ a. counts_of a (take n kept)) all_arrays ∙ ap (counts_of m.arrays) all_kept);
+    }
 
 -- what holds of the bytes that were read holds of those that the source had
 pub of_source : (P : List ℕ → Type 0) (known : Option (List ℕ)) (input : List ℕ) → IfSome known (λ bytes. input ≡ bytes) → P input → IfSome known P
 of_source P None input e h = tt
 of_source P (Some bytes) input e h = subst P e h
+
+-- what was appended stays where a flush keeps it
+pub Appends-kept : (a b c : Option (List ℕ)) (bytes : List ℕ) → Appends a b bytes → Keeps b c → Appends a c bytes
+Appends-kept None b c bytes p q = tt
+Appends-kept (Some x) None c bytes p q = absurd p
+Appends-kept (Some x) (Some y) None bytes p q = absurd q
+Appends-kept (Some x) (Some y) (Some z) bytes p q = q ∙ p

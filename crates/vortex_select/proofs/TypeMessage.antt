@@ -1,5 +1,5 @@
 -- The message of the column type that is laid out.
-use Rattle.std.proofs.Common.{◌≡◌, ℕ, List, [], ◌∷◌, take, drop, Some, refl}
+use Rattle.std.proofs.Common.{◌≡◌, ℕ, List, [], take, drop, Some, refl}
 use Rattle.vortex_flat.specs.Numbers.{number}
 use Rattle.vortex_flat.specs.Table.{table_at, field_in}
 use Rattle.vortex_ipc.specs.Header.{type_content, message_table_of, content_at, header_of}

@@ -1,5 +1,5 @@
 -- A list of four words.
-use Rattle.std.proofs.Common.{◌≡◌, ℕ, ◌<◌, ◌≤◌, List, [], ◌∷◌, length, get_or, Option, Some, None, refl, sym, ap, ◌∙◌, arith}
+use Rattle.std.proofs.Common.{◌≡◌, ℕ, ◌<◌, ◌≤◌, List, [], ◌∷◌, length, get_or, Option, Some, None, arith}
 use Rattle.std.specs.Prelude.{String, string_bytes, IfNone}
 use Rattle.std.specs.Global.{Global}
 use Rattle.vortex_select.specs.Words.{texts}

@@ -6,7 +6,7 @@ use Rattle.vortex_flat.specs.Numbers.{number}
 use Rattle.vortex_flat.specs.Table.{◌>>=◌}
 use Rattle.vortex_flat.specs.Targets.{number_field, vector_field}
 use Rattle.vortex_ipc.specs.Header.{message_table_of, or_zero, names_in}
-use Rattle.vortex_select.specs.Column.{ColumnType, column_type_of, plain_buffer_of}
+use Rattle.vortex_select.specs.Column.{column_type_of, plain_buffer_of}
 
 -- so many bytes from the front, and those after them, where there are as many
 abbrev pub front_of : ℕ → List ℕ → Option (List ℕ × List ℕ)

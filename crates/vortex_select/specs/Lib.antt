@@ -6,3 +6,4 @@ pub mod Decoding
 pub mod Layout
 pub mod Report
 pub mod Theorem
+pub mod Fronts

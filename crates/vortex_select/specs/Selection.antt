@@ -1,5 +1,5 @@
 -- Which rows are kept, and how many rows there are.
-use Rattle.std.specs.Prelude.{ℕ, Bool, true, false, List, length, map, filter, sum_by, ℤ, FitsSigned}
+use Rattle.std.specs.Prelude.{Bool, true, false, List, length, map, filter, sum_by, ℤ, FitsSigned}
 use Rattle.std.specs.Int.{w64}
 use Rattle.std.specs.Ordering.{int_cmp}
 use Rattle.std.specs.declared.cmp.Ordering.{Ordering}

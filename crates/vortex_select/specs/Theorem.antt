@@ -1,5 +1,5 @@
 -- What a run that answers 0 has done.
-use Rattle.std.specs.Prelude.{◌≡◌, ℕ, List, ◌++◌, take, ℤ}
+use Rattle.std.specs.Prelude.{◌≡◌, ℕ, suc, ◌<◌, ◌≤◌, List, ◌++◌, length, take, ℤ, ◌⊎◌}
 use Rattle.vortex_ipc.specs.Stream.{IsStream}
 use Rattle.vortex_select.specs.Column.{ColumnType, IsColumnType, IsPlainArray}
 use Rattle.vortex_select.specs.Selection.{selected, counts_of}
@@ -19,7 +19,13 @@ pub record Selects (query : Query) (input output : List ℕ) (counts : Counts) :
   pub written : IsColumnStream output column (selected query arrays)
   pub counts_are : counts ≡ counts_of arrays (selected query arrays)
 
--- A part of such an output, when a write failed: the front of it, in which some arrays lie whole, and the counts are theirs.
+-- the bytes begin with a stream of these arrays, of so many bytes
+pub record BeginsWith (bytes : List ℕ) (column : ColumnType) (arrays : List (List ℤ)) (len : ℕ) : Type 0 where
+  pub within : len ≤ length bytes
+  pub stands : IsColumnStream (take len bytes) column arrays
+
+-- A part of such an output, when a write failed: a front of it, in which the first `whole` arrays lie whole and no more,
+-- and the counts are theirs.
 pub record SelectsPart (query : Query) (input part : List ℕ) (counts : Counts) : Type 0 where
   pub column : ColumnType
   pub arrays : List (List ℤ)
@@ -29,4 +35,6 @@ pub record SelectsPart (query : Query) (input part : List ℕ) (counts : Counts)
   pub read : IsColumnStream input column arrays
   pub written : IsColumnStream output column (selected query arrays)
   pub parts : output ≡ part ++ more
+  pub reached : (whole ≡ 0) ⊎ ((len : ℕ) × (len ≤ length part) × BeginsWith output column (take whole (selected query arrays)) len)
+  pub no_more : (whole ≡ length arrays) ⊎ ((len : ℕ) × (length part < len) × BeginsWith output column (take (suc whole) (selected query arrays)) len)
   pub counts_are : counts ≡ counts_of (take whole arrays) (take whole (selected query arrays))

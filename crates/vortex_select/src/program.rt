@@ -12,12 +12,12 @@ use crate::error::SelectError;
 use crate::note::line;
 use crate::reading::read_to_end;
 use crate::report::{Counts, RunFault, RunReport, status_of};
-use crate::selecting::output_for;
+use crate::selecting::{counts_within, output_for};
 use crate::selection::Query;
 use crate::words::query;
 use std::alloc::Global;
 use std::sync::ledger::Ledger;
-use vortex_ipc::{Sink, Source, write_all};
+use vortex_ipc::{Sink, SinkFailed, Source, write_all};
 use vortex_steps::Steps;
 
 /// Does what the words ask for: reads a stream of `source` to its end, writes the stream of the rows that are kept to `sink`,
@@ -118,11 +118,17 @@ fn select<S: Source, K: Sink>(
 {
     let input = read_to_end(alloc, source)?;
     let output = output_for(alloc, query, &input)?;
-    match write_all(sink, &output.bytes) {
-        Ok(()) => Ok(output.counts),
-        Err(_) => Err(Stopped {
+    if let Err(short) = write_all(sink, &output.bytes) {
+        return Err(Stopped {
             error: SelectError::WriteFault,
-            counts: Counts::NONE,
+            counts: counts_within(&output.fronts, short.written),
+        });
+    }
+    match sink.flush() {
+        Ok(()) => Ok(output.counts),
+        Err(SinkFailed) => Err(Stopped {
+            error: SelectError::WriteFault,
+            counts: output.counts,
         }),
     }
 }

@@ -1,7 +1,7 @@
 //! From the bytes of a stream to those of the stream of the rows that are kept.
 
 ghost use Rattle.std.specs.Prelude.{◌≡◌, ◌⊎◌, IfOk, IfErr};
-ghost use Rattle.vortex_select.specs.Theorem.{Selects};
+ghost use Rattle.vortex_select.specs.Fronts.{IsMade, Reaches};
 
 use crate::decoding::after_type;
 use crate::error::SelectError;
@@ -11,16 +11,38 @@ use crate::report::Counts;
 use crate::selection::Query;
 use std::alloc::Global;
 
-/// The whole output, before its first byte is written.
+/// Where the output of so many arrays ends, and their counts.
+#[derive(Clone, Copy)]
+pub(crate) struct Front {
+    end: usize,
+    counts: Counts,
+}
+
+/// The whole output, before its first byte is written, with a front for each array.
 #[derive(Drop)]
 pub(crate) struct Output {
     pub(crate) bytes: Vec<u8>,
     pub(crate) counts: Counts,
+    pub(crate) fronts: Vec<Front>,
+}
+
+/// The counts of the arrays that lie whole in so many bytes.
+pub(crate) fn counts_within(fronts: &[Front], bytes: usize) -> Counts
+    ensures { Reaches fronts.now bytes result }
+{
+    let mut counts = Counts::NONE;
+    for front in fronts {
+        if bytes < front.end {
+            return counts;
+        }
+        counts = front.counts;
+    }
+    counts
 }
 
 /// The output for an input, or `Unbuilt` where the input is no stream of the form that is built so far.
 pub(crate) fn output_for(alloc: Global, query: &Query, input: &[u8]) -> Result<Output, SelectError>
-    ensures selects { IfOk result (λ output. Selects query.now input.now output.bytes.items output.counts) }
+    ensures made { IfOk result (λ output. IsMade query.now input.now output.bytes.items output.counts output.fronts.items) }
     ensures only { IfErr result (λ e. (e ≡ SelectError.Unbuilt) ⊎ (e ≡ SelectError.OutOfMemory)) }
 {
     let Ok(mut rest) = after_type(input) else {
@@ -29,6 +51,7 @@ pub(crate) fn output_for(alloc: Global, query: &Query, input: &[u8]) -> Result<O
     let mut bytes = Vec::with_capacity(alloc, input.len())?;
     bytes.extend_from_slice(&TYPE_MESSAGE)?;
     let mut counts = Counts::NONE;
+    let mut fronts = Vec::new(alloc);
     while !rest.is_empty() {
         let Ok((rows, after)) = plain_array(rest) else {
             return Err(SelectError::Unbuilt);
@@ -39,7 +62,15 @@ pub(crate) fn output_for(alloc: Global, query: &Query, input: &[u8]) -> Result<O
             read: counts.read + (rows.len() / 8) as u128,
             kept: counts.kept + kept as u128,
         };
+        fronts.push(Front {
+            end: bytes.len(),
+            counts,
+        })?;
         rest = after;
     }
-    Ok(Output { bytes, counts })
+    Ok(Output {
+        bytes,
+        counts,
+        fronts,
+    })
 }

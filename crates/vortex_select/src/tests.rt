@@ -187,16 +187,16 @@ fn rows_are_kept_by_each_operator(rt: HostRuntime) -> Result<(), Fail> {
     const LEAST: i64 = i64::MIN;
     const MOST: i64 = i64::MAX;
     let all: [&[i64]; 3] = [&[LEAST, -1, 0], &[], &[1, 2, MOST]];
-    let table: [(&str, &str, [&[i64]; 3]); 9] = [
-        ("eq", "i64:0", [&[0], &[], &[]]),
-        ("ne", "i64:-1", [&[LEAST, 0], &[], &[1, 2, MOST]]),
-        ("lt", "i64:1", [&[LEAST, -1, 0], &[], &[]]),
-        ("le", "i64:1", [&[LEAST, -1, 0], &[], &[1]]),
-        ("gt", "i64:1", [&[], &[], &[2, MOST]]),
-        ("ge", "i64:1", [&[], &[], &[1, 2, MOST]]),
-        ("lt", "i64:-9223372036854775808", [&[], &[], &[]]),
-        ("le", "i64:-9223372036854775808", [&[LEAST], &[], &[]]),
-        ("ge", "i64:9223372036854775807", [&[], &[], &[MOST]]),
+    let table: [(&str, &str, &[&[i64]]); 9] = [
+        ("eq", "i64:0", &[&[0], &[], &[]]),
+        ("ne", "i64:-1", &[&[LEAST, 0], &[], &[1, 2, MOST]]),
+        ("lt", "i64:1", &[&[LEAST, -1, 0], &[], &[]]),
+        ("le", "i64:1", &[&[LEAST, -1, 0], &[], &[1]]),
+        ("gt", "i64:1", &[&[], &[], &[2, MOST]]),
+        ("ge", "i64:1", &[&[], &[], &[1, 2, MOST]]),
+        ("lt", "i64:-9223372036854775808", &[&[], &[], &[]]),
+        ("le", "i64:-9223372036854775808", &[&[LEAST], &[], &[]]),
+        ("ge", "i64:9223372036854775807", &[&[], &[], &[MOST]]),
     ];
     let input = stream(rt.alloc(), &all)?;
     for (operator, literal, kept) in table {
@@ -206,7 +206,7 @@ fn rows_are_kept_by_each_operator(rt: HostRuntime) -> Result<(), Fail> {
             &input,
             &QUIET,
         )?;
-        let want = stream(rt.alloc(), &kept)?;
+        let want = stream(rt.alloc(), kept)?;
         assert_eq!(rt; got.status, 0, "at {operator} {literal}");
         assert_eq!(rt;
             got.output.as_slice(),

@@ -1,5 +1,5 @@
-use Rattle.std.proofs.Common.{◌≡◌, ◌≤◌, ◌-◌, ◌+◌, ◌++◌, ℕ, List, length, refl, ap, ◌∙◌, arith, length-append}
-use Rattle.vortex_select.specs.Layout.{kept_region, array_message}
+use Rattle.std.proofs.Common.{◌≡◌, ◌-◌, ◌++◌, ℕ, List, length, refl, ap, ◌∙◌, arith, length-append}
+use Rattle.vortex_select.specs.Layout.{kept_region}
 use Rattle.vortex_select.specs.declared.layout.TheConstants.{ARRAY_HEADER}
 use Rattle.vortex_select.proofs.KeptRows.{kept_short, message_of}
 use Rattle.vortex_select.proofs.layout.push_selected.Goals as goal

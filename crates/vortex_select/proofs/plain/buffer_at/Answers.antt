@@ -1,10 +1,10 @@
-use Rattle.std.proofs.Common.{◌≡◌, ◌≤◌, ◌<◌, ◌-◌, ◌+◌, ◌/◌, ◌%◌, ◌^◌, ◌∷◌, ℕ, List, length, take, drop, Option, Some, None, inl, inr, refl, sym, ap, ◌∙◌, arith, length-take}
+use Rattle.std.proofs.Common.{◌≡◌, ◌<◌, ◌-◌, ◌+◌, ◌/◌, ◌%◌, ◌^◌, ℕ, take, drop, Option, Some, inl, inr, refl, sym, ap, ◌∙◌, arith, length-take}
 use Rattle.std.proofs.lemmas.List.{drop-drop}
-use Rattle.std.specs.Option.{option_map, option_copied}
+use Rattle.std.specs.Option.{option_copied}
 use Rattle.vortex_flat.specs.Numbers.{number}
 use Rattle.vortex_flat.specs.Targets.{element}
 use Rattle.vortex_ipc.specs.Header.{elements}
-use Rattle.vortex_select.proofs.PlainLoops.{picked, picked_fail, picked_more, picked_now, picked_next, picked_end, picked_first, found_more, answers_found, IsFoundBy, FitsIn, its_buffer, behind}
+use Rattle.vortex_select.proofs.PlainLoops.{picked_fail, picked_more, picked_now, picked_next, picked_end, picked_first, found_more, answers_found, FitsIn, its_buffer, behind}
 use Rattle.vortex_select.proofs.plain.buffer_at.Goals as goal
 use Rattle.vortex_select.proofs.plain.buffer_at.Goals.{then-compression-ne0-via-then-compression-ne0, then-compression-ne0-via-else-compression-ne0+then-rest-padding, then-i-wanted, else-i-wanted}
 

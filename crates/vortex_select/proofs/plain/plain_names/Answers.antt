@@ -1,9 +1,7 @@
-use Rattle.std.proofs.Common.{◌≡◌, ◌≤◌, ◌<◌, ℕ, Bool, true, false, cond, refl, ap, ◌∙◌, arith, rules}
-use Rattle.std.proofs.lemmas.Bool.{le-leb, lt-leb}
+use Rattle.std.proofs.Common.{◌≡◌, ◌≤◌, ◌<◌, true, false, refl, ◌∙◌, arith, rules}
 use Rattle.vortex_flat.specs.Targets.{text_element}
-use Rattle.vortex_ipc.specs.Header.{elements}
-use Rattle.vortex_select.specs.Decoding.{is_plain, plain_count}
-use Rattle.vortex_select.proofs.PlainLoops.{names_more, names_fail, names_other, names_end, few}
+use Rattle.vortex_select.specs.Decoding.{is_plain}
+use Rattle.vortex_select.proofs.PlainLoops.{names_more, names_other, few}
 use Rattle.vortex_select.proofs.plain.plain_names.Goals as goal
 
 pub returns-then-ne : goal.returns-then-ne

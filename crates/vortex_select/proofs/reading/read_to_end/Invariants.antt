@@ -1,4 +1,4 @@
-use Rattle.std.proofs.Common.{◌≡◌, ◌≤◌, length}
+use Rattle.std.proofs.Common.{◌≤◌, length}
 use Rattle.std.specs.Io.KnownBytes.{Consumes}
 use Rattle.vortex_ipc.specs.Counts.{RoseBy}
 use Rattle.vortex_select.proofs.reading.read_to_end.Given as goal

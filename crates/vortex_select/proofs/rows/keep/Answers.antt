@@ -1,4 +1,4 @@
-use Rattle.std.proofs.Common.{◌≡◌, ◌≤◌, ◌<◌, [], length, get_or, arith, rules}
+use Rattle.std.proofs.Common.{◌≡◌, ◌<◌, [], length, get_or, arith, rules}
 use Rattle.vortex_select.specs.Layout.{keeps}
 use Rattle.vortex_select.proofs.KeptRows.{keep_more, at_most_one}
 use Rattle.vortex_select.proofs.rows.keep.Goals as goal

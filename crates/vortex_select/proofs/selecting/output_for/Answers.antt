@@ -1,9 +1,9 @@
-use Rattle.std.proofs.Common.{◌≡◌, List, ℕ, [], length, sym, subst, arith, rules}
+use Rattle.std.proofs.Common.{◌≡◌, [], ◌++◌, length, ap, arith, rules}
 use Rattle.std.proofs.lemmas.List.{nil_from_length}
 use Rattle.std.proofs.lemmas.Bool.Decides.{nat_tests}
 use Rattle.vortex_select.specs.Layout.{array_message, kept_region}
 use Rattle.vortex_select.specs.declared.layout.TheConstants.{TYPE_MESSAGE}
-use Rattle.vortex_select.proofs.SelectionLemmas.{Progress, counted, progress_start, progress_more, progress_end, rest_shorter, after_type_shorter}
+use Rattle.vortex_select.proofs.SelectionLemmas.{progress_start, progress_more, progress_end, rest_shorter, after_type_shorter}
 use Rattle.vortex_select.proofs.selecting.output_for.Goals as goal
 
 pub loop-rest-init : goal.loop-rest-init
@@ -11,8 +11,9 @@ loop-rest-init c =
     let query = c.args.query.now in
     let start = c.in-Ok.rest.now in
     let bytes : c.extend_from_slice.new.self.items ≡ TYPE_MESSAGE = search rules in
+    let fronts : c.new-fronts.result.items ≡ [] = c.new-fronts.ensures.items in
     record {
-      progress = rw bytes (progress_start query start);
+      progress = rw (bytes, fronts) (progress_start query start);
       short = after_type_shorter c.args.input.now start c.in-Ok.ensures;
     }
 
@@ -23,13 +24,11 @@ pub loop-rest-preserved : goal.loop-rest-preserved
 loop-rest-preserved c =
     let query = c.args.query.now in
     let array = c.in-Ok-plain_array in
-    let more = progress_more query c.in-Ok.rest.now c.loop-rest.rest.now c.loop-rest.bytes.items c.loop-rest.counts (array.rows.now, array.after.now) c.loop-rest.invariant.progress array.ensures.found array.ensures.short in
-    record {
-      progress = rw (c.in_ok-kept.ensures.message, c.in_ok-kept.ensures.kept) more;
-      short = c.loop-rest.invariant.short;
-    }
+    let len : c.len.result ≡ length (c.loop-rest.bytes.items ++ array_message (kept_region query array.rows.now)) = omega (arith, ap length c.in_ok-kept.ensures.message) in
+    let more = progress_more query c.in-Ok.rest.now c.loop-rest.rest.now c.loop-rest.bytes.items c.loop-rest.counts c.loop-rest.fronts.items (array.rows.now, array.after.now) c.len.result c.loop-rest.invariant.progress array.ensures.found array.ensures.short len in
+    record { progress = rw (c.in_ok-push.ensures.items, c.in_ok-kept.ensures.message, c.in_ok-kept.ensures.kept) more; short = c.loop-rest.invariant.short }
 
-pub returns-clause-selects : goal.returns-clause-selects
-returns-clause-selects c =
+pub returns-clause-made : goal.returns-clause-made
+returns-clause-made c =
     let none : c.loop-rest.rest.now ≡ [] = nil_from_length _ (grind (arith, nat_tests)) in
-    progress_end c.args.query.now c.args.input.now c.in-Ok.rest.now c.loop-rest.rest.now c.loop-rest.bytes.items c.loop-rest.counts c.in-Ok.ensures none c.loop-rest.invariant.progress
+    progress_end c.args.query.now c.args.input.now c.in-Ok.rest.now c.loop-rest.rest.now c.loop-rest.bytes.items c.loop-rest.counts c.loop-rest.fronts.items c.in-Ok.ensures none c.loop-rest.invariant.progress

@@ -4,7 +4,7 @@ use Rattle.vortex_select.proofs.selecting.output_for.Given as goal
 
 abbrev pub invariant-loop-rest : goal.invariant-loop-rest
 invariant-loop-rest l = record {
-  progress : Progress l.query l.initial.rest l.rest l.bytes.items l.counts;
+  progress : Progress l.query l.initial.rest l.rest l.bytes.items l.counts l.fronts.items;
   short : length l.initial.rest ≤ length l.input;
 }
 

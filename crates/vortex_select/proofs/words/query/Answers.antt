@@ -1,8 +1,8 @@
-use Rattle.std.proofs.Common.{◌≡◌, ◌++◌, ◌∷◌, [], ℕ, ℤ, List, length, refl, sym, ap, subst, ◌∙◌, arith, rules}
+use Rattle.std.proofs.Common.{◌≡◌, ◌++◌, sym, subst, ◌∙◌, rules}
 use Rattle.std.specs.Prelude.{codes, string_bytes}
 use Rattle.std.specs.Int.{w64}
 use Rattle.std.proofs.lemmas.Int.{to_z-of_z}
-use Rattle.vortex_select.specs.Words.{texts, operator_word, IsInteger, IsQuery}
+use Rattle.vortex_select.specs.Words.{operator_word, IsInteger}
 use Rattle.vortex_select.proofs.WordsLemmas.{four_words, if_none, four_alike, fourth_alike}
 use Rattle.vortex_select.proofs.words.query.Goals as goal
 
