@@ -10,3 +10,4 @@ pub mod TreesLemmas
 pub mod HangingLemmas
 pub mod Finished
 pub mod ReadsLemmas
+pub mod AppendLemmas

@@ -13,3 +13,4 @@ pub mod ItemFalls
 pub mod Extent
 pub mod SlotBytes
 pub mod Finish
+pub mod Append

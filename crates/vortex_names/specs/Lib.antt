@@ -1,0 +1,6 @@
+pub mod Errors
+pub mod Nullable
+pub mod Decimals
+pub mod Names
+pub mod Selectors
+pub mod Kept

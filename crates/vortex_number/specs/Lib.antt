@@ -1,0 +1,4 @@
+pub mod Format
+pub mod FormatLaws
+pub mod PType
+pub mod ValueErrorNumber

@@ -1,0 +1,11 @@
+use Rattle.vortex_terms.specs.TermLaws.{fields_from-parts, names_of-from, types_of-from}
+use Rattle.vortex_terms.proofs.types.fields_are_names_and_types.Goals as goal
+
+pub returns-clause-together : goal.returns-clause-together
+returns-clause-together c = fields_from-parts
+
+pub returns-clause-names : goal.returns-clause-names
+returns-clause-names c = names_of-from
+
+pub returns-clause-types : goal.returns-clause-types
+returns-clause-types c = types_of-from

@@ -1,0 +1,4 @@
+pub mod DecimalValue
+pub mod NumericOperator
+pub mod Operator
+pub mod PValue

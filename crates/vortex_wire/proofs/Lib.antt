@@ -1,0 +1,6 @@
+pub mod Reading
+pub mod Writing
+pub mod FieldLaws
+pub mod Singular
+pub mod Records
+pub mod Only

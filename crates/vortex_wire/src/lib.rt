@@ -1,0 +1,17 @@
+//! The fields of Protocol Buffers messages, and the metadata records that are such messages.
+#![tactic(auto)]
+
+mod error;
+mod field;
+mod message;
+mod metadata;
+mod varint;
+
+pub use error::WireError;
+pub use field::{Fields, WireField, WireValue, put_bytes};
+pub use message::{only_field, put_varint_field, singular_u32, singular_varint};
+pub use metadata::{DecimalMetadata, DictMetadata, ListMetadata};
+pub use varint::put_varint;
+
+#[cfg(test)]
+mod tests;
