@@ -10,13 +10,12 @@ use Rattle.vortex_ipc.specs.Stream.{IsMessage, AreArrays}
 use Rattle.vortex_ipc.proofs.StreamLemmas.{message_bytes, message_append, arrays_append, one_array}
 use Rattle.std.specs.Io.KnownBytes.{Appends, Keeps}
 use Rattle.vortex_select.specs.Column.{ColumnType, i64_column, i64_values, IsPlainArray}
-use Rattle.vortex_select.specs.Layout.{array_message, body_end, kept_region}
+use Rattle.vortex_select.specs.Layout.{type_message, array_message, body_end, kept_region, AreLaidOut}
 use Rattle.vortex_select.specs.Selection.{bears, selected, counts_of}
 use Rattle.vortex_select.specs.Decoding.{after_type_of, plain_array_of}
 use Rattle.vortex_select.specs.Report.{no_counts}
 use Rattle.vortex_select.specs.Theorem.{IsColumnStream, Selects, BeginsWith, SelectsPart}
 use Rattle.vortex_select.specs.Fronts.{IsFront, AreFronts, IsMade, IsLastWithin, Reaches}
-use Rattle.vortex_select.specs.declared.layout.TheConstants.{TYPE_MESSAGE}
 use Rattle.vortex_select.specs.declared.report.Counts.{Counts}
 use Rattle.vortex_select.specs.declared.selecting.Front.{Front}
 use Rattle.vortex_select.specs.declared.selection.Query.{Query}
@@ -34,8 +33,9 @@ pub record Progress (query : Query) (start rest out : List ℕ) (counts : Counts
   pub arrays : List (List ℤ)
   pub parts : start ≡ front ++ rest
   pub read : AreArrays IsPlainArray i64_column front arrays
-  pub out_is : out ≡ TYPE_MESSAGE ++ tail
+  pub out_is : out ≡ type_message ++ tail
   pub written : AreArrays IsPlainArray i64_column tail (selected query arrays)
+  pub laid_out : AreLaidOut tail (selected query arrays)
   pub counts_are : counts ≡ counts_of arrays (selected query arrays)
   pub fronts_are : AreFronts query i64_column arrays out 1 fronts
   pub all : length fronts ≡ length arrays
@@ -43,7 +43,7 @@ pub record Progress (query : Query) (start rest out : List ℕ) (counts : Counts
   pub read_bound : counts.read ≤ 2 ^ 32 * counts.arrays
   pub kept_bound : counts.kept ≤ counts.read
 
-pub progress_start : (query : Query) (start : List ℕ) → Progress query start start TYPE_MESSAGE no_counts []
+pub progress_start : (query : Query) (start : List ℕ) → Progress query start start type_message no_counts []
 progress_start query start = record {
   front = [];
   tail = [];
@@ -52,6 +52,7 @@ progress_start query start = record {
   read = refl;
   out_is = refl;
   written = refl;
+  laid_out = refl;
   counts_are = refl;
   fronts_are = tt;
   all = refl;
@@ -78,10 +79,10 @@ own_long : (own body : List ℕ) (content : Content) → IsMessage own content b
 own_long own body content m = omega (arith, ap length m.parts, length-append m.prefix m.header, length-append (m.prefix ++ m.header) body, length-append (m.prefix ++ m.header ++ body) [], m.prefix_len)
 
 -- the output so far stands for the rows so far
-out_stands : (query : Query) (out tail : List ℕ) (kept : List (List ℤ)) → out ≡ TYPE_MESSAGE ++ tail → AreArrays IsPlainArray i64_column tail kept → IsColumnStream out i64_column kept
+out_stands : (query : Query) (out tail : List ℕ) (kept : List (List ℤ)) → out ≡ type_message ++ tail → AreArrays IsPlainArray i64_column tail kept → IsColumnStream out i64_column kept
 out_stands query out tail kept e h =
-    let laid : IsMessage (TYPE_MESSAGE ++ tail) type_content type_body ([] ++ tail) = message_append TYPE_MESSAGE type_content type_body [] tail type_message_is in
-    let whole : IsColumnStream (TYPE_MESSAGE ++ tail) i64_column kept = record { body = type_body; rest = tail; message = laid; is_type = type_body_is; are_arrays = h } in
+    let laid : IsMessage (type_message ++ tail) type_content type_body ([] ++ tail) = message_append type_message type_content type_body [] tail type_message_is in
+    let whole : IsColumnStream (type_message ++ tail) i64_column kept = record { body = type_body; rest = tail; message = laid; is_type = type_body_is; are_arrays = h } in
     subst (λ (l : List ℕ). IsColumnStream l i64_column kept) (sym e) whole
 
 length-selected : (query : Query) (arrays : List (List ℤ)) → length (selected query arrays) ≡ length arrays
@@ -127,6 +128,13 @@ whole_front query arrays out counts n len stands e same long =
       counts_are = e ∙ sym (ap (λ a. counts_of a (take n (selected query arrays))) all_arrays ∙ ap (counts_of arrays) all_kept);
     }
 
+-- one array more is laid out
+laid_more : (bytes region : List ℕ) (arrays : List (List ℤ)) (rows : List ℤ) → AreLaidOut bytes arrays → length region ≡ 8 * length rows → i64_values (length rows) region ≡ rows → AreLaidOut (bytes ++ array_message region) (arrays ++ rows ∷ [])
+laid_more bytes region [] rows h len values =
+    (region, [], ap (λ (l : List ℕ). l ++ array_message region) h ∙ sym (append-nil (array_message region)), len, values, refl)
+laid_more bytes region (first ∷ arrays) rows h len values =
+    (h.0, h.1 ++ array_message region, ap (λ (l : List ℕ). l ++ array_message region) h.2 ∙ append_assoc (array_message h.0) h.1 (array_message region), h.3, h.4, laid_more h.1 region arrays rows h.5 len values)
+
 pub progress_more : (query : Query) (start rest out : List ℕ) (counts : Counts) (fronts : List Front) (p : List ℕ × List ℕ) (len : ℕ) → Progress query start rest out counts fronts → plain_array_of rest ≡ Some p → length p.0 < 2 ^ 32
     → len ≡ length (out ++ array_message (kept_region query p.0))
     → Progress query start p.1 (out ++ array_message (kept_region query p.0)) (counted counts (length p.0 / 8) (length (kept_region query p.0) / 8))
@@ -146,8 +154,12 @@ progress_more query start rest out counts fronts p len so_far found short len_is
     let read_n : length p.0 / 8 ≡ length rows = omega (arith, length-values f.count p.0, f.len) in
     let kept_n : length region / 8 ≡ length kept_rows = omega (arith, k.len, length-values k.kept region, ap length k.values) in
     let arrays = so_far.arrays ++ rows ∷ [] in
-    let out_is : out ++ array_message region ≡ TYPE_MESSAGE ++ (so_far.tail ++ array_message region) = ap (λ (l : List ℕ). l ++ array_message region) so_far.out_is ∙ append_assoc TYPE_MESSAGE so_far.tail (array_message region) in
+    let out_is : out ++ array_message region ≡ type_message ++ (so_far.tail ++ array_message region) = ap (λ (l : List ℕ). l ++ array_message region) so_far.out_is ∙ append_assoc type_message so_far.tail (array_message region) in
     let written : AreArrays IsPlainArray i64_column (so_far.tail ++ array_message region) (selected query arrays) = subst (AreArrays IsPlainArray i64_column (so_far.tail ++ array_message region)) selected_more (arrays_append IsPlainArray i64_column so_far.tail (array_message region) (selected query so_far.arrays) (kept_rows ∷ []) so_far.written out_one) in
+    let n_kept : length kept_rows ≡ k.kept = sym (ap length k.values) ∙ length-values k.kept region in
+    let laid_len : length region ≡ 8 * length kept_rows = omega (arith, k.len, n_kept) in
+    let laid_values : i64_values (length kept_rows) region ≡ kept_rows = ap (λ j. i64_values j region) n_kept ∙ k.values in
+    let laid_out : AreLaidOut (so_far.tail ++ array_message region) (selected query arrays) = subst (AreLaidOut (so_far.tail ++ array_message region)) selected_more (laid_more so_far.tail region (selected query so_far.arrays) kept_rows so_far.laid_out laid_len laid_values) in
     let counts_are : counted counts (length p.0 / 8) (length region / 8) ≡ counts_of arrays (selected query arrays) = ap (λ c. counted c (length p.0 / 8) (length region / 8)) so_far.counts_are ∙ ap (λ n. counted (counts_of so_far.arrays (selected query so_far.arrays)) n (length region / 8)) read_n ∙ ap (counted (counts_of so_far.arrays (selected query so_far.arrays)) (length rows)) kept_n ∙ counts_more so_far.arrays (selected query so_far.arrays) rows kept_rows ∙ ap (counts_of arrays) selected_more in
     let n : length so_far.arrays + 1 ≡ length arrays = omega (arith, length-append so_far.arrays (rows ∷ [])) in
     let front = whole_front query arrays (out ++ array_message region) (counted counts (length p.0 / 8) (length region / 8)) (length so_far.arrays + 1) len (out_stands query (out ++ array_message region) (so_far.tail ++ array_message region) (selected query arrays) out_is written) counts_are n len_is in
@@ -159,6 +171,7 @@ progress_more query start rest out counts fronts p len so_far found short len_is
       read = arrays_append IsPlainArray i64_column so_far.front own.own so_far.arrays (rows ∷ []) so_far.read in_one;
       out_is = out_is;
       written = written;
+      laid_out = laid_out;
       counts_are = counts_are;
       fronts_are = fronts_more query so_far.arrays rows out (array_message region) 1 fronts (record { end = len; counts = counted counts (length p.0 / 8) (length region / 8) }) (omega (arith, so_far.all)) so_far.fronts_are front;
       all = omega (arith, so_far.all, length-append fronts (let new : Front = record { end = len; counts = counted counts (length p.0 / 8) (length region / 8) } in new ∷ []), n);
@@ -191,6 +204,7 @@ progress_end query input start rest out counts fronts e none so_far =
       arrays = so_far.arrays;
       read = record { body = a.body; rest = start; message = a.message; is_type = a.column; are_arrays = subst (λ (l : List ℕ). AreArrays IsPlainArray i64_column l so_far.arrays) (sym whole) so_far.read };
       written = out_stands query out so_far.tail (selected query so_far.arrays) so_far.out_is so_far.written;
+      laid_out = (so_far.tail, so_far.out_is, so_far.laid_out);
       counts_are = so_far.counts_are;
       fronts_are = so_far.fronts_are;
       all = so_far.all;
@@ -199,7 +213,7 @@ progress_end query input start rest out counts fronts e none so_far =
 -- ---- what was written
 
 pub made_selects : (query : Query) (input output : List ℕ) (counts : Counts) (fronts : List Front) → IsMade query input output counts fronts → Selects query input output counts
-made_selects query input output counts fronts m = record { column = m.column; arrays = m.arrays; read = m.read; written = m.written; counts_are = m.counts_are }
+made_selects query input output counts fronts m = record { column = m.column; arrays = m.arrays; read = m.read; written = m.written; laid_out = m.laid_out; counts_are = m.counts_are }
 
 -- the front at a place
 front_at : (query : Query) (column : ColumnType) (arrays : List (List ℤ)) (output : List ℕ) (n i : ℕ) (fronts : List Front) (front : Front) → AreFronts query column arrays output n fronts → slice_get fronts i ≡ Some front → IsFront query column arrays output (n + i) front
@@ -232,6 +246,7 @@ part_of query input output part more bytes counts kept fronts m long e r =
       whole = r.whole;
       read = m.read;
       written = m.written;
+      laid_out = m.laid_out;
       parts = e;
       reached = last.0;
       no_more = elim r.next [
@@ -261,6 +276,7 @@ all_of query input output counts fronts m =
       whole = n;
       read = m.read;
       written = m.written;
+      laid_out = m.laid_out;
       parts = sym (append-nil output);
       reached = inr (
         length output,

@@ -5,17 +5,17 @@ use Rattle.vortex_flat.specs.Table.{table_at, field_in}
 use Rattle.vortex_ipc.specs.Header.{type_content, message_table_of, content_at, header_of}
 use Rattle.vortex_ipc.specs.Stream.{IsMessage}
 use Rattle.vortex_select.specs.Column.{i64_column, column_type_of}
-use Rattle.vortex_select.specs.declared.layout.TheConstants.{TYPE_MESSAGE}
+use Rattle.vortex_select.specs.Layout.{type_message}
 
 -- its body
 abbrev pub type_body : List ℕ
-type_body = drop 68 TYPE_MESSAGE
+type_body = drop 68 type_message
 
-pub type_message_is : IsMessage TYPE_MESSAGE type_content type_body []
+pub type_message_is : IsMessage type_message type_content type_body []
 unfolding number table_at field_in message_table_of content_at header_of
 type_message_is = record {
-  prefix = take 4 TYPE_MESSAGE;
-  header = take 64 (drop 4 TYPE_MESSAGE);
+  prefix = take 4 type_message;
+  header = take 64 (drop 4 type_message);
   parts = refl;
   prefix_len = refl;
   header_len = refl;

@@ -1,6 +1,7 @@
 -- The fronts of an output, one for each number of arrays.
 use Rattle.std.specs.Prelude.{◌≡◌, ℕ, zero, suc, ◌<◌, ◌≤◌, List, [], ◌∷◌, length, take, Some, slice_get, ℤ, ◌⊎◌}
 use Rattle.vortex_select.specs.Column.{ColumnType}
+use Rattle.vortex_select.specs.Layout.{IsLaidOut}
 use Rattle.vortex_select.specs.Selection.{selected, counts_of}
 use Rattle.vortex_select.specs.Report.{no_counts}
 use Rattle.vortex_select.specs.Theorem.{IsColumnStream}
@@ -25,6 +26,7 @@ pub record IsMade (query : Query) (input output : List ℕ) (counts : Counts) (f
   pub arrays : List (List ℤ)
   pub read : IsColumnStream input column arrays
   pub written : IsColumnStream output column (selected query arrays)
+  pub laid_out : IsLaidOut output (selected query arrays)
   pub counts_are : counts ≡ counts_of arrays (selected query arrays)
   pub fronts_are : AreFronts query column arrays output 1 fronts
   pub all : length fronts ≡ length arrays

@@ -1,25 +1,57 @@
--- The bytes of a message of a plain array, as this project lays them out: the length of the header, the header, the
--- region of the rows, a flat buffer of 112 bytes, and its length.
-use Rattle.std.specs.Prelude.{ℕ, ◌+◌, ◌/◌, Bool, List, ◌++◌, length, filter}
+-- The bytes that are written, as this project lays them out (FlatBuffers of its own schemas, in one spelling).
+use Rattle.std.specs.Prelude.{◌≡◌, ℕ, ◌+◌, ◌*◌, ◌/◌, Bool, List, [], ◌∷◌, ◌++◌, length, filter, ℤ}
 use Rattle.std.specs.Ordering.{int_cmp}
 use Rattle.std.specs.Int.{w32, w64, to_le_bytes}
 use Rattle.std.specs.Simd.{first_chunks}
 use Rattle.std.specs.List.{flat_map}
-use Rattle.vortex_select.specs.Column.{i64_value}
+use Rattle.vortex_select.specs.Column.{i64_value, i64_values}
 use Rattle.vortex_select.specs.Selection.{bears}
 use Rattle.vortex_select.specs.declared.selection.Query.{Query}
-use Rattle.vortex_select.specs.declared.layout.TheConstants.{HEADER_TO_SIZE, HEADER_TO_ROWS, HEADER_REST, BODY_TO_LENGTH, BODY_REST}
+
+-- the message of the type: its length, 64, the header, and a body of 48 bytes
+abbrev pub type_message : List ℕ
+type_message = 64 ∷ 0 ∷ 0 ∷ 0 ∷ 24 ∷ 0 ∷ 0 ∷ 0 ∷ 0 ∷ 0 ∷ 0 ∷ 0 ∷ 12 ∷ 0 ∷ 22 ∷ 0 ∷ 20 ∷ 0 ∷ 21 ∷ 0 ∷ 16 ∷ 0 ∷ 8 ∷ 0 ∷ 0 ∷ 0 ∷ 0 ∷ 0 ∷ 16 ∷ 0 ∷ 0 ∷ 0 ∷ 0 ∷ 0 ∷ 0 ∷ 0 ∷ 48 ∷ 0 ∷ 0 ∷ 0 ∷ 0 ∷ 0 ∷ 0 ∷ 0 ∷ 16 ∷ 0 ∷ 0 ∷ 0 ∷ 0 ∷ 3 ∷ 0 ∷ 0 ∷ 4 ∷ 0 ∷ 4 ∷ 0 ∷ 0 ∷ 0 ∷ 0 ∷ 0 ∷ 8 ∷ 0 ∷ 0 ∷ 0 ∷ 0 ∷ 0 ∷ 0 ∷ 0 ∷ 16 ∷ 0 ∷ 0 ∷ 0 ∷ 0 ∷ 0 ∷ 0 ∷ 0 ∷ 8 ∷ 0 ∷ 9 ∷ 0 ∷ 8 ∷ 0 ∷ 4 ∷ 0 ∷ 8 ∷ 0 ∷ 0 ∷ 0 ∷ 20 ∷ 0 ∷ 0 ∷ 0 ∷ 3 ∷ 0 ∷ 0 ∷ 0 ∷ 0 ∷ 0 ∷ 0 ∷ 0 ∷ 8 ∷ 0 ∷ 6 ∷ 0 ∷ 4 ∷ 0 ∷ 5 ∷ 0 ∷ 8 ∷ 0 ∷ 0 ∷ 0 ∷ 7 ∷ 0 ∷ 0 ∷ 0 ∷ []
+
+-- the length of the header of an array, 104, and the header up to the size of the body
+abbrev pub header_to_size : List ℕ
+header_to_size = 104 ∷ 0 ∷ 0 ∷ 0 ∷ 24 ∷ 0 ∷ 0 ∷ 0 ∷ 0 ∷ 0 ∷ 0 ∷ 0 ∷ 12 ∷ 0 ∷ 22 ∷ 0 ∷ 20 ∷ 0 ∷ 21 ∷ 0 ∷ 16 ∷ 0 ∷ 8 ∷ 0 ∷ 0 ∷ 0 ∷ 0 ∷ 0 ∷ 16 ∷ 0 ∷ 0 ∷ 0 ∷ 0 ∷ 0 ∷ 0 ∷ 0 ∷ []
+
+-- from there to the number of rows
+abbrev pub header_to_rows : List ℕ
+header_to_rows = 16 ∷ 0 ∷ 0 ∷ 0 ∷ 0 ∷ 1 ∷ 0 ∷ 0 ∷ 8 ∷ 0 ∷ 12 ∷ 0 ∷ 4 ∷ 0 ∷ 8 ∷ 0 ∷ 8 ∷ 0 ∷ 0 ∷ 0 ∷ []
+
+-- from there on: one name, vortex.primitive
+abbrev pub header_rest : List ℕ
+header_rest = 8 ∷ 0 ∷ 0 ∷ 0 ∷ 0 ∷ 0 ∷ 0 ∷ 0 ∷ 1 ∷ 0 ∷ 0 ∷ 0 ∷ 4 ∷ 0 ∷ 0 ∷ 0 ∷ 16 ∷ 0 ∷ 0 ∷ 0 ∷ 118 ∷ 111 ∷ 114 ∷ 116 ∷ 101 ∷ 120 ∷ 46 ∷ 112 ∷ 114 ∷ 105 ∷ 109 ∷ 105 ∷ 116 ∷ 105 ∷ 118 ∷ 101 ∷ 0 ∷ 0 ∷ 0 ∷ 0 ∷ []
+
+-- the flat buffer of a plain array up to the length of its one buffer
+abbrev pub flat_to_length : List ℕ
+flat_to_length = 16 ∷ 0 ∷ 0 ∷ 0 ∷ 0 ∷ 0 ∷ 0 ∷ 0 ∷ 8 ∷ 0 ∷ 12 ∷ 0 ∷ 4 ∷ 0 ∷ 8 ∷ 0 ∷ 8 ∷ 0 ∷ 0 ∷ 0 ∷ 28 ∷ 0 ∷ 0 ∷ 0 ∷ 72 ∷ 0 ∷ 0 ∷ 0 ∷ 0 ∷ 0 ∷ 0 ∷ 0 ∷ 12 ∷ 0 ∷ 18 ∷ 0 ∷ 16 ∷ 0 ∷ 4 ∷ 0 ∷ 8 ∷ 0 ∷ 12 ∷ 0 ∷ 0 ∷ 0 ∷ 0 ∷ 0 ∷ 16 ∷ 0 ∷ 0 ∷ 0 ∷ 20 ∷ 0 ∷ 0 ∷ 0 ∷ 24 ∷ 0 ∷ 0 ∷ 0 ∷ 28 ∷ 0 ∷ 0 ∷ 0 ∷ 0 ∷ 0 ∷ 0 ∷ 0 ∷ 0 ∷ 0 ∷ 0 ∷ 0 ∷ 0 ∷ 0 ∷ 0 ∷ 0 ∷ 0 ∷ 0 ∷ 0 ∷ 0 ∷ 0 ∷ 0 ∷ 0 ∷ 0 ∷ 0 ∷ 0 ∷ 0 ∷ 0 ∷ 1 ∷ 0 ∷ 0 ∷ 0 ∷ 0 ∷ 0 ∷ 0 ∷ 0 ∷ 1 ∷ 0 ∷ 0 ∷ 0 ∷ 0 ∷ 0 ∷ 0 ∷ 0 ∷ []
+
+-- from there on, and its own length, 112
+abbrev pub flat_rest : List ℕ
+flat_rest = 0 ∷ 0 ∷ 0 ∷ 0 ∷ 112 ∷ 0 ∷ 0 ∷ 0 ∷ []
 
 -- the length and the header: of how many rows, and how long a body
 abbrev pub array_header : ℕ → ℕ → List ℕ
-array_header rows size = HEADER_TO_SIZE ++ (to_le_bytes w64 size ++ (HEADER_TO_ROWS ++ (to_le_bytes w32 rows ++ HEADER_REST)))
+array_header rows size = header_to_size ++ (to_le_bytes w64 size ++ (header_to_rows ++ (to_le_bytes w32 rows ++ header_rest)))
 
 -- the flat buffer for a region of that length, and its length
 abbrev pub body_end : ℕ → List ℕ
-body_end len = BODY_TO_LENGTH ++ (to_le_bytes w32 len ++ BODY_REST)
+body_end len = flat_to_length ++ (to_le_bytes w32 len ++ flat_rest)
 
+-- the message of a plain array, whose rows are the region
 abbrev pub array_message : List ℕ → List ℕ
 array_message region = array_header (length region / 8) (length region + 116) ++ (region ++ body_end (length region))
+
+-- the bytes are the messages of these arrays, one after another, and each region is the rows, 8 bytes each
+abbrev pub AreLaidOut : List ℕ → List (List ℤ) → Type 0
+AreLaidOut bytes [] = bytes ≡ []
+AreLaidOut bytes (rows ∷ arrays) = (region : List ℕ) × (rest : List ℕ) × (bytes ≡ array_message region ++ rest) × (length region ≡ 8 * length rows) × (i64_values (length rows) region ≡ rows) × AreLaidOut rest arrays
+
+-- the bytes are the message of the type, and then those
+abbrev pub IsLaidOut : List ℕ → List (List ℤ) → Type 0
+IsLaidOut output arrays = (tail : List ℕ) × (output ≡ type_message ++ tail) × AreLaidOut tail arrays
 
 -- whether a row of 8 bytes is kept
 abbrev pub keeps : Query → List ℕ → Bool

@@ -2,6 +2,7 @@
 use Rattle.std.specs.Prelude.{◌≡◌, ℕ, suc, ◌<◌, ◌≤◌, List, ◌++◌, length, take, ℤ, ◌⊎◌}
 use Rattle.vortex_ipc.specs.Stream.{IsStream}
 use Rattle.vortex_select.specs.Column.{ColumnType, IsColumnType, IsPlainArray}
+use Rattle.vortex_select.specs.Layout.{IsLaidOut}
 use Rattle.vortex_select.specs.Selection.{selected, counts_of}
 use Rattle.vortex_select.specs.declared.selection.Query.{Query}
 use Rattle.vortex_select.specs.declared.report.Counts.{Counts}
@@ -10,13 +11,14 @@ use Rattle.vortex_select.specs.declared.report.Counts.{Counts}
 abbrev pub IsColumnStream : List ℕ → ColumnType → List (List ℤ) → Type 0
 IsColumnStream = IsStream IsColumnType IsPlainArray
 
--- The input is a stream, the output a stream of the same type and, array for array, exactly the selected rows, and
--- the counts are theirs.
+-- The input is a stream, the output a stream of the same type and, array for array, exactly the selected rows, in the
+-- one spelling that is written, and the counts are theirs.
 pub record Selects (query : Query) (input output : List ℕ) (counts : Counts) : Type 0 where
   pub column : ColumnType
   pub arrays : List (List ℤ)
   pub read : IsColumnStream input column arrays
   pub written : IsColumnStream output column (selected query arrays)
+  pub laid_out : IsLaidOut output (selected query arrays)
   pub counts_are : counts ≡ counts_of arrays (selected query arrays)
 
 -- the bytes begin with a stream of these arrays, of so many bytes
@@ -34,6 +36,7 @@ pub record SelectsPart (query : Query) (input part : List ℕ) (counts : Counts)
   pub whole : ℕ
   pub read : IsColumnStream input column arrays
   pub written : IsColumnStream output column (selected query arrays)
+  pub laid_out : IsLaidOut output (selected query arrays)
   pub parts : output ≡ part ++ more
   pub reached : (whole ≡ 0) ⊎ ((len : ℕ) × (len ≤ length part) × BeginsWith output column (take whole (selected query arrays)) len)
   pub no_more : (whole ≡ length arrays) ⊎ ((len : ℕ) × (length part < len) × BeginsWith output column (take (suc whole) (selected query arrays)) len)

@@ -17,25 +17,8 @@ pub(crate) const TYPE_MESSAGE: [u8; 116] = [
     0x03, 0, 0, 0, 0, 0, 0, 0, 0x08, 0, 0x06, 0, 0x04, 0, 0x05, 0, 0x08, 0, 0, 0, 0x07, 0, 0, 0,
 ];
 
-/// The length of the header of a plain array, and the header up to the size of the body.
-pub(crate) const HEADER_TO_SIZE: [u8; 36] = [
-    104, 0, 0, 0, 24, 0, 0, 0, 0, 0, 0, 0, 12, 0, 22, 0, 20, 0, 21, 0, 16, 0, 8, 0, 0, 0, 0, 0, 16,
-    0, 0, 0, 0, 0, 0, 0,
-];
-
-/// The header from there to the number of rows.
-pub(crate) const HEADER_TO_ROWS: [u8; 20] = [
-    16, 0, 0, 0, 0, 1, 0, 0, 8, 0, 12, 0, 4, 0, 8, 0, 8, 0, 0, 0,
-];
-
-/// The header from there on: the one name of an encoding.
-pub(crate) const HEADER_REST: [u8; 40] = [
-    8, 0, 0, 0, 0, 0, 0, 0, 1, 0, 0, 0, 4, 0, 0, 0, 16, 0, 0, 0, 118, 111, 114, 116, 101, 120, 46,
-    112, 114, 105, 109, 105, 116, 105, 118, 101, 0, 0, 0, 0,
-];
-
 /// The flat buffer of a plain array up to the length of its one buffer.
-pub(crate) const BODY_TO_LENGTH: [u8; 104] = [
+const BODY_TO_LENGTH: [u8; 104] = [
     16, 0, 0, 0, 0, 0, 0, 0, 8, 0, 12, 0, 4, 0, 8, 0, 8, 0, 0, 0, 28, 0, 0, 0, 72, 0, 0, 0, 0, 0,
     0, 0, 12, 0, 18, 0, 16, 0, 4, 0, 8, 0, 12, 0, 0, 0, 0, 0, 16, 0, 0, 0, 20, 0, 0, 0, 24, 0, 0,
     0, 28, 0, 0, 0, 0, 0, 0, 0, 0, 0, 0, 0, 0, 0, 0, 0, 0, 0, 0, 0, 0, 0, 0, 0, 0, 0, 0, 0, 1, 0,
@@ -43,7 +26,7 @@ pub(crate) const BODY_TO_LENGTH: [u8; 104] = [
 ];
 
 /// The flat buffer from there on, and its length.
-pub(crate) const BODY_REST: [u8; 8] = [0, 0, 0, 0, 112, 0, 0, 0];
+const BODY_REST: [u8; 8] = [0, 0, 0, 0, 112, 0, 0, 0];
 
 /// The length of the header and the header of a plain array, of no row and with no body yet.
 const ARRAY_HEADER: [u8; 108] = [

@@ -1,8 +1,7 @@
 use Rattle.std.proofs.Common.{◌≡◌, [], ◌++◌, length, ap, arith, rules}
 use Rattle.std.proofs.lemmas.List.{nil_from_length}
 use Rattle.std.proofs.lemmas.Bool.Decides.{nat_tests}
-use Rattle.vortex_select.specs.Layout.{array_message, kept_region}
-use Rattle.vortex_select.specs.declared.layout.TheConstants.{TYPE_MESSAGE}
+use Rattle.vortex_select.specs.Layout.{type_message, array_message, kept_region}
 use Rattle.vortex_select.proofs.SelectionLemmas.{progress_start, progress_more, progress_end, rest_shorter, after_type_shorter}
 use Rattle.vortex_select.proofs.selecting.output_for.Goals as goal
 
@@ -10,7 +9,7 @@ pub loop-rest-init : goal.loop-rest-init
 loop-rest-init c =
     let query = c.args.query.now in
     let start = c.in-Ok.rest.now in
-    let bytes : c.extend_from_slice.new.self.items ≡ TYPE_MESSAGE = search rules in
+    let bytes : c.extend_from_slice.new.self.items ≡ type_message = search rules in
     let fronts : c.new-fronts.result.items ≡ [] = c.new-fronts.ensures.items in
     record {
       progress = rw (bytes, fronts) (progress_start query start);
