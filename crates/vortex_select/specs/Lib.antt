@@ -7,3 +7,4 @@ pub mod Layout
 pub mod Report
 pub mod Theorem
 pub mod Fronts
+pub mod LayoutLaws
