@@ -12,6 +12,10 @@ raised_128 count n = min (count + n) (2 ^ 128 - 1)
 abbrev pub Rose : ℕ → ℕ → Type 0
 Rose before now = raised_64 before 1 ≤ now
 
+-- it neither rose nor stands there
+abbrev pub DidNotRise : ℕ → ℕ → Type 0
+DidNotRise before now = Rose before now → ⊥
+
 -- a count of 128 bits rose by n at least, or stands at its last value
 abbrev pub RoseBy : ℕ → ℕ → ℕ → Type 0
 RoseBy n before now = raised_128 before n ≤ now

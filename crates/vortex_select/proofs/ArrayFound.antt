@@ -69,7 +69,7 @@ header_found header p e =
     subst (HeaderFound header) g.1 whole
 
 -- the buffer has 8 bytes for each row
-buffer_len : (count names : ℕ) (parts : BodyParts) (buffer : List ℕ) → plain_buffer_in count names parts ≡ Some buffer → length buffer ≡ 8 * count
+pub buffer_len : (count names : ℕ) (parts : BodyParts) (buffer : List ℕ) → plain_buffer_in count names parts ≡ Some buffer → length buffer ≡ 8 * count
 unfolding plain_buffer_in
 buffer_len count names parts buffer e =
     let root = bind_some (root_at parts.flat) (λ root. option_flatten (table_field parts.flat root.place 0) >>= λ place. plain_node_at parts.flat place >>= λ node. buffer_in parts.region (records_in parts.flat (vector_field parts.flat root.place 1 8)) node.buffer >>= λ b. cond (ltb node.encoding names && eqb (length b) (8 * count)) (Some b) None) buffer e in

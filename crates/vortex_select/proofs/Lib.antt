@@ -7,3 +7,5 @@ pub mod Fields
 pub mod KeptRows
 pub mod ArrayMessage
 pub mod ArrayFound
+pub mod Complete
+pub mod SelectedAgain

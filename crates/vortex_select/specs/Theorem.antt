@@ -11,6 +11,10 @@ use Rattle.vortex_select.specs.declared.report.Counts.{Counts}
 abbrev pub IsColumnStream : List ℕ → ColumnType → List (List ℤ) → Type 0
 IsColumnStream = IsStream IsColumnType IsPlainArray
 
+-- and for some type and arrays
+abbrev pub IsSomeStream : List ℕ → Type 0
+IsSomeStream bytes = (column : ColumnType) × (arrays : List (List ℤ)) × IsColumnStream bytes column arrays
+
 -- The input is a stream, the output a stream of the same type and, array for array, exactly the selected rows, in the
 -- one spelling that is written, and the counts are theirs.
 pub record Selects (query : Query) (input output : List ℕ) (counts : Counts) : Type 0 where

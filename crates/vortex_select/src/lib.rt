@@ -3,6 +3,7 @@
 
 mod decoding;
 mod error;
+mod laws;
 mod layout;
 mod note;
 mod plain;
@@ -15,6 +16,7 @@ mod selection;
 mod words;
 
 pub use error::SelectError;
+pub use laws::{one_meaning, selected_again};
 pub use program::run;
 pub use report::{Counts, RunFault, RunReport};
 

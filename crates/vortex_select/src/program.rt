@@ -1,11 +1,11 @@
 //! The top call.
 
-ghost use Rattle.std.specs.Prelude.{◌≡◌, ◌≢◌, ◌↔◌, ℕ, ◌-◌, ◌^◌, List, Some, None, IfSome, IfOk, OnOk, IfErr};
+ghost use Rattle.std.specs.Prelude.{◌≡◌, ◌≢◌, ◌↔◌, ◌⊎◌, ◌<◌, ◌≤◌, ℕ, ◌-◌, ◌^◌, List, length, Some, None, IfSome, IfOk, OnOk, IfErr};
 ghost use Rattle.std.specs.Io.KnownBytes.{Appends, IsAtEnd};
-ghost use Rattle.vortex_ipc.specs.Counts.{Rose, RoseBy};
+ghost use Rattle.vortex_ipc.specs.Counts.{Rose, DidNotRise, RoseBy};
 ghost use Rattle.vortex_select.specs.Words.{texts, IsQuery};
 ghost use Rattle.vortex_select.specs.Report.{status_of, note_of, no_counts, IsBeforeWriting};
-ghost use Rattle.vortex_select.specs.Theorem.{Selects, SelectsPart};
+ghost use Rattle.vortex_select.specs.Theorem.{IsSomeStream, Selects, SelectsPart};
 ghost use Rattle.vortex_select.specs.declared.selection.Query.{Query};
 
 use crate::error::SelectError;
@@ -45,8 +45,21 @@ pub fn run<S: Source, K: Sink, N: Sink, L: Ledger>(
     ensures read_fault { result.fault ≡ Some (RunFault.Select SelectError.ReadFault) → Rose (S.faults source.old) (S.faults source.new) }
     ensures write_fault { result.fault ≡ Some (RunFault.Select SelectError.WriteFault) → Rose (K.faults sink.old) (K.faults sink.new) }
     ensures read_limit { result.fault ≡ Some (RunFault.Select SelectError.ReadLimit)
-        → RoseBy (2 ^ 64 - 1) (S.reads source.old) (S.reads source.new) × RoseBy (2 ^ 64 - 1) (S.given source.old) (S.given source.new) }
-    ensures unbuilt { result.fault ≡ Some (RunFault.Select SelectError.Unbuilt) → Rose (S.ends source.old) (S.ends source.new) }
+        → RoseBy (2 ^ 64 - 1) (S.reads source.old) (S.reads source.new) × RoseBy (2 ^ 64 - 1) (S.given source.old) (S.given source.new)
+        × IfSome (S.rest source.old) (λ input. 2 ^ 64 - 1 ≤ length input) }
+    ensures unbuilt { result.fault ≡ Some (RunFault.Select SelectError.Unbuilt)
+        → Rose (S.ends source.old) (S.ends source.new) × IfSome (S.rest source.old) (λ input. IsSomeStream input → ⊥) }
+
+    // Where the words ask for a query and nothing faults, a stream is selected and anything else is Unbuilt, unless memory
+    // runs out.
+    ensures streams { (query : Query) → IsQuery (texts words.now) query
+        → DidNotRise (S.faults source.old) (S.faults source.new) → DidNotRise (K.faults sink.old) (K.faults sink.new)
+        → IfSome (S.rest source.old) (λ input. length input < 2 ^ 64 - 1
+        → IsSomeStream input → (result.status ≡ 0) ⊎ (result.status ≡ 9)) }
+    ensures others { (query : Query) → IsQuery (texts words.now) query
+        → DidNotRise (S.faults source.old) (S.faults source.new) → DidNotRise (K.faults sink.old) (K.faults sink.new)
+        → IfSome (S.rest source.old) (λ input. length input < 2 ^ 64 - 1
+        → (IsSomeStream input → ⊥) → (result.status ≡ 10) ⊎ (result.status ≡ 9)) }
 
     // What a refusal leaves.
     ensures nothing_read { result.fault ≡ Some RunFault.BadWords → source.new ≡ source.old }
@@ -59,7 +72,7 @@ pub fn run<S: Source, K: Sink, N: Sink, L: Ledger>(
     ensures no_counts { result.fault ≢ None → result.fault ≢ Some (RunFault.Select SelectError.WriteFault) → result.counts ≡ no_counts }
 
     ensures status { result.status ≡ status_of result.fault }
-    ensures note { (Rose (N.faults note.old) (N.faults note.new) → ⊥)
+    ensures note { DidNotRise (N.faults note.old) (N.faults note.new)
         → Appends (N.written note.old) (N.written note.new) (note_of result.counts result.fault) }
     ensures steps { steps.new ≡ steps.old }
 {
@@ -109,8 +122,10 @@ fn select<S: Source, K: Sink>(
     ensures read_fault { IfErr result (λ e. e.error ≡ SelectError.ReadFault → Rose (S.faults source.old) (S.faults source.new)) }
     ensures write_fault { IfErr result (λ e. e.error ≡ SelectError.WriteFault → Rose (K.faults sink.old) (K.faults sink.new)) }
     ensures read_limit { IfErr result (λ e. e.error ≡ SelectError.ReadLimit
-        → RoseBy (2 ^ 64 - 1) (S.reads source.old) (S.reads source.new) × RoseBy (2 ^ 64 - 1) (S.given source.old) (S.given source.new)) }
-    ensures unbuilt { IfErr result (λ e. e.error ≡ SelectError.Unbuilt → Rose (S.ends source.old) (S.ends source.new)) }
+        → RoseBy (2 ^ 64 - 1) (S.reads source.old) (S.reads source.new) × RoseBy (2 ^ 64 - 1) (S.given source.old) (S.given source.new)
+        × IfSome (S.rest source.old) (λ input. 2 ^ 64 - 1 ≤ length input)) }
+    ensures unbuilt { IfErr result (λ e. e.error ≡ SelectError.Unbuilt
+        → Rose (S.ends source.old) (S.ends source.new) × IfSome (S.rest source.old) (λ input. IsSomeStream input → ⊥)) }
     ensures nothing_written { IfErr result (λ e. e.error ≢ SelectError.WriteFault → K.written sink.new ≡ K.written sink.old) }
     ensures part_written { IfErr result (λ e. e.error ≡ SelectError.WriteFault → IfSome (S.rest source.old) (λ input. (part : List ℕ)
         × SelectsPart query.now input part e.counts × Appends (K.written sink.old) (K.written sink.new) part)) }

@@ -1,6 +1,7 @@
 //! From the bytes of a stream to those of the stream of the rows that are kept.
 
-ghost use Rattle.std.specs.Prelude.{◌≡◌, ◌⊎◌, IfOk, IfErr};
+ghost use Rattle.std.specs.Prelude.{◌≡◌, ◌⊎◌, IfOk, IfErr, IsErrOf};
+ghost use Rattle.vortex_select.specs.Theorem.{IsSomeStream};
 ghost use Rattle.vortex_select.specs.Fronts.{IsMade, Reaches};
 
 use crate::decoding::after_type;
@@ -43,6 +44,7 @@ pub(crate) fn counts_within(fronts: &[Front], bytes: usize) -> Counts
 /// The output for an input, or `Unbuilt` where the input is no stream of the form that is built so far.
 pub(crate) fn output_for(alloc: Global, query: &Query, input: &[u8]) -> Result<Output, SelectError>
     ensures made { IfOk result (λ output. IsMade query.now input.now output.bytes.items output.counts output.fronts.items) }
+    ensures unbuilt { IsErrOf result SelectError.Unbuilt → IsSomeStream input.now → ⊥ }
     ensures only { IfErr result (λ e. (e ≡ SelectError.Unbuilt) ⊎ (e ≡ SelectError.OutOfMemory)) }
 {
     let Ok(mut rest) = after_type(input) else {
