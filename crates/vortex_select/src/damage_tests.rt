@@ -105,7 +105,11 @@ fn damaged_streams_are_done_as_the_plain_reader_says(rt: HostRuntime) -> Result<
         (unusual.as_slice(), "arrays 1, read 2, kept 1\n"),
     ] {
         assert_eq!(rt; expectation_of(alloc, whole)?.note.as_str(), note);
-        assert_eq!(rt; first_difference(alloc, whole)?, None);
+        assert_eq!(rt;
+            first_difference(alloc, whole)?,
+            None,
+            "in the stream of {note:?}"
+        );
     }
     Ok(())
 }
