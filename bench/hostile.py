@@ -3,9 +3,9 @@
 
     bench/hostile.py [--size BYTES] [--repeat N] [--program PATH]
 
-For each stream it prints the status, the time (the best of N runs), the peak memory, and how many times those of the first
-stream, a good one of one array, they are. Ends with status 1 where one is above 4, or where a status is not the one that
-docs/FORMATS.md asks for. Outside the gate.
+For each stream it prints the status, the time (the best of N runs, in turns with those on a good stream of one array), the peak
+memory, and how many times those of the good stream they are. Ends with status 1 where that is above 4, or where a status is not
+the one that docs/FORMATS.md asks for. Outside the gate.
 """
 import argparse
 import multiprocessing
@@ -56,13 +56,13 @@ def message(names=PLAIN_NAMES, metadata=b"", records=b"\1\0\0\0" + bytes(8), reg
     return streams.message(1, ("table", [(4, rows), (0, names)]), region + flat + struct.pack("<I", len(flat)))
 
 
-def shared_names(count, text):
+def shared_names(count, text=streams.PLAIN):
     """So many names, each an offset to one text."""
     offsets = struct.pack(f"<{count}I", *range(4 * count, 0, -4))
     return "ready", struct.pack("<I", count) + offsets + struct.pack("<I", len(text)) + text + b"\0"
 
 
-def smallest_message():
+def short_message():
     """An array without rows in 141 bytes: no padding, no field that may be absent, and one vector for records and buffers."""
     header = struct.pack("<I6HiIQB", 16, 12, 17, 0, 16, 4, 8, 12, 21, 60, 1)
     header += struct.pack("<4HiI", 8, 8, 0, 4, 8, 4) + struct.pack("<3I", 1, 4, len(streams.PLAIN)) + streams.PLAIN
@@ -90,6 +90,15 @@ def records_of_one_byte(size):
     return TYPE + message(records=records, region=bytes(8 + count - 1), rows=1)
 
 
+def records_of_no_byte(size):
+    count = size // 8 - 100
+    return TYPE + message(records=struct.pack("<I", count) + bytes(8 * count))
+
+
+def long_name(size):
+    return TYPE + message(shared_names(MOST_NAMES, b"v" * (size - 4 * MOST_NAMES - 500)))
+
+
 def whole_header(size):
     header = streams.laid_out(("table", [(1, 0), (1, 1), (0, ("table", [(4, 0), (0, PLAIN_NAMES)])), (8, 0)]))
     header += random_bytes(size - len(TYPE) - len(header) - 4)
@@ -101,17 +110,17 @@ SHORT_BODY = patched(SMALL, ROWS_AT, b"\xff" * 4)
 LONG_BODY = patched(SMALL, BODY_SIZE_AT, b"\xff" * 8)
 LONG_HEADER = patched(SMALL, 0, b"\xff" * 4)
 
-# What a stream of a size is called, its status, and how it is made. The first is what the others are held against.
+# What a stream is called, its status, and how one of a size is made. The first is what the others are held against.
 STREAMS = [
     ("good: one array", SELECTED, one_array),
     ("good: arrays of 100 rows", SELECTED, lambda size: filled(size, SMALL)),
     ("arrays of no rows", SELECTED, lambda size: filled(size, rows_message(0))),
-    ("smallest arrays of no rows", SELECTED, lambda size: filled(size, smallest_message())),
-    ("headers of 65,536 names, one text", SELECTED, lambda size: filled(size, message(shared_names(MOST_NAMES, streams.PLAIN)))),
-    ("a header of more names", UNBUILT, lambda size: filled(size, message(shared_names(size // 4 - 200, streams.PLAIN)))),
-    ("65,536 names, one text of megabytes", UNBUILT, lambda size: TYPE + message(shared_names(MOST_NAMES, b"v" * (size - 4 * MOST_NAMES)))),
+    ("arrays of no rows in 141 bytes", SELECTED, lambda size: filled(size, short_message())),
+    ("headers of 65,536 names, one text", SELECTED, lambda size: filled(size, message(shared_names(MOST_NAMES)))),
+    ("a header of millions of names", UNBUILT, lambda size: filled(size, message(shared_names(size // 4 - 200)))),
+    ("65,536 names, one text of megabytes", UNBUILT, long_name),
     ("millions of records", SELECTED, records_of_one_byte),
-    ("millions of records of no byte", SELECTED, lambda size: TYPE + message(records=struct.pack("<I", size // 8 - 100) + bytes(size - 800))),
+    ("millions of records of no byte", SELECTED, records_of_no_byte),
     ("metadata of megabytes", SELECTED, lambda size: TYPE + message(metadata=random_bytes(size - 500))),
     ("a header that is the rest", UNBUILT, whole_header),
     ("a length of a header of 2^32 - 1", UNBUILT, lambda size: TYPE + b"\xff" * 4 + random_bytes(size - 120)),
@@ -120,7 +129,7 @@ STREAMS = [
     ("the same at the end", UNBUILT, lambda size: filled(size, SMALL, SHORT_BODY)),
     ("a body of 2^64 - 1 bytes", UNBUILT, lambda size: filled(size, LONG_BODY)),
     ("the same at the end", UNBUILT, lambda size: filled(size, SMALL, LONG_BODY)),
-    ("the same behind smallest arrays", UNBUILT, lambda size: filled(size, smallest_message(), LONG_BODY)),
+    ("the same behind arrays of 141 bytes", UNBUILT, lambda size: filled(size, short_message(), LONG_BODY)),
     ("one array, its last byte cut", UNBUILT, lambda size: one_array(size)[:-1]),
     ("arrays of 100 rows, the last byte cut", UNBUILT, lambda size: filled(size, SMALL)[:-1]),
     ("random bytes", UNBUILT, random_bytes),
@@ -155,6 +164,22 @@ def run_once(program, words, path):
     return child.returncode, seconds, usage.ru_maxrss * 1024
 
 
+def in_turns(program, paths, repeat):
+    """The statuses, the best time and the peak memory at each path."""
+    turns = [[run_once(program, bench.WORDS, path) for path in paths] for _ in range(repeat)]
+    return [({run[0] for run in runs}, min(run[1] for run in runs), max(run[2] for run in runs)) for runs in zip(*turns)]
+
+
+def row(name, wanted, size, good, ours):
+    """A line of the table, and whether it is as it is to be."""
+    statuses, seconds, memory = ours
+    ratios = seconds / good[1], memory / good[2]
+    is_right = statuses == {wanted} and max(ratios) <= MOST
+    told = "/".join(str(status) for status in sorted(statuses))
+    line = f"{name:<38} {size:>9} {told:>6} {seconds:>8.4f} {ratios[0]:>6.2f} {memory / 2**20:>6.1f} MB {ratios[1]:>6.2f}"
+    return line + ("" if is_right else "  <-"), is_right
+
+
 def main():
     arguments = argparse.ArgumentParser(description=__doc__, formatter_class=argparse.RawDescriptionHelpFormatter)
     arguments.add_argument("--size", type=int, default=1 << 24)
@@ -167,21 +192,17 @@ def main():
     floor = run_once("/bin/true", [], os.devnull)[2]
     print(f"{' '.join(bench.WORDS)}; best of {chosen.repeat}; memory below {floor / 2**20:.1f} MB is not seen")
     print(f"{'stream':<38} {'bytes':>9} {'status':>6} {'seconds':>8} {'ratio':>6} {'memory':>9} {'ratio':>6}")
-    good, bad = None, 0
+    all_right = True
     with tempfile.TemporaryDirectory() as folder:
-        path = os.path.join(folder, "stream")
+        paths = [os.path.join(folder, name) for name in ("good", "stream")]
+        write_apart(paths[0], 0, chosen.size)
         for number, (name, wanted, _) in enumerate(STREAMS):
-            write_apart(path, number, chosen.size)
-            runs = [run_once(program, bench.WORDS, path) for _ in range(chosen.repeat)]
-            statuses = {status for status, _, _ in runs}
-            seconds, memory = min(run[1] for run in runs), max(run[2] for run in runs)
-            good = good or (seconds, memory)
-            ratios = seconds / good[0], memory / good[1]
-            fault = "" if statuses == {wanted} and max(ratios) <= MOST else "  <-"
-            bad += bool(fault)
-            print(f"{name:<38} {os.path.getsize(path):>9} {'/'.join(map(str, sorted(statuses))):>6} {seconds:>8.4f} {ratios[0]:>6.2f}"
-                  f" {memory / 2**20:>6.1f} MB {ratios[1]:>6.2f}{fault}", flush=True)
-    sys.exit(1 if bad else 0)
+            write_apart(paths[1], number, chosen.size)
+            good, ours = in_turns(program, paths, chosen.repeat)
+            line, is_right = row(name, wanted, os.path.getsize(paths[1]), good, ours)
+            print(line, flush=True)
+            all_right = all_right and is_right
+    sys.exit(0 if all_right else 1)
 
 
 if __name__ == "__main__":
