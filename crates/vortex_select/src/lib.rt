@@ -21,4 +21,8 @@ pub use program::run;
 pub use report::{Counts, RunFault, RunReport};
 
 #[cfg(test)]
+mod damage_tests;
+#[cfg(test)]
+mod plain_reader;
+#[cfg(test)]
 mod tests;

@@ -9,7 +9,7 @@ use vortex_ipc::{VecSink, VecSource};
 use vortex_steps::Steps;
 
 // The message of a type: Primitive I64, never null.
-const TYPE: [u8; 116] = [
+pub(crate) const TYPE: [u8; 116] = [
     0x40, 0x00, 0x00, 0x00, 0x18, 0x00, 0x00, 0x00, 0x00, 0x00, 0x00, 0x00, 0x0c, 0x00, 0x16, 0x00,
     0x14, 0x00, 0x15, 0x00, 0x10, 0x00, 0x08, 0x00, 0x00, 0x00, 0x00, 0x00, 0x10, 0x00, 0x00, 0x00,
     0x00, 0x00, 0x00, 0x00, 0x30, 0x00, 0x00, 0x00, 0x00, 0x00, 0x00, 0x00, 0x10, 0x00, 0x00, 0x00,
@@ -45,14 +45,14 @@ const FLAT: [u8; 116] = [
 
 /// Where a test's source and sink are short and fail.
 #[derive(Clone, Copy)]
-struct Outside {
+pub(crate) struct Outside {
     read_sizes: &'static [usize],
     read_failing: &'static [u64],
     write_sizes: &'static [usize],
     write_failing: &'static [u64],
 }
 
-const QUIET: Outside = Outside {
+pub(crate) const QUIET: Outside = Outside {
     read_sizes: &[],
     read_failing: &[],
     write_sizes: &[],
@@ -61,16 +61,21 @@ const QUIET: Outside = Outside {
 
 /// What a run did.
 #[derive(Drop)]
-struct Outcome {
-    status: u8,
+pub(crate) struct Outcome {
+    pub(crate) status: u8,
     counts: (u128, u128, u128),
-    output: Vec<u8>,
-    note: Vec<u8>,
+    pub(crate) output: Vec<u8>,
+    pub(crate) note: Vec<u8>,
     reads: u128,
 }
 
 // The bytes with some of them replaced.
-fn patched(alloc: Global, bytes: &[u8], at: usize, piece: &[u8]) -> Result<Vec<u8>, AllocError> {
+pub(crate) fn patched(
+    alloc: Global,
+    bytes: &[u8],
+    at: usize,
+    piece: &[u8],
+) -> Result<Vec<u8>, AllocError> {
     let mut all = Vec::new(alloc);
     for (i, byte) in bytes.iter().enumerate() {
         let inside = at <= i && i - at < piece.len();
@@ -79,26 +84,28 @@ fn patched(alloc: Global, bytes: &[u8], at: usize, piece: &[u8]) -> Result<Vec<u
     Ok(all)
 }
 
-// The message of a plain array.
-fn array(alloc: Global, rows: &[i64]) -> Result<Vec<u8>, AllocError> {
-    let len = (rows.len() as u64).saturating_mul(8);
+// The message of a plain array, whose rows are bytes.
+pub(crate) fn array_of(alloc: Global, rows: &[u8]) -> Result<Vec<u8>, AllocError> {
+    let len = rows.len() as u64;
     let sized = patched(alloc, &HEADER, 36, &len.saturating_add(116).to_le_bytes())?;
-    let mut all = patched(
-        alloc,
-        &sized,
-        64,
-        &((rows.len() % 0x1_0000_0000) as u32).to_le_bytes(),
-    )?;
-    for row in rows {
-        all.extend_from_slice(&row.to_le_bytes())?;
-    }
+    let count = (len / 8 % 0x1_0000_0000) as u32;
+    let mut all = patched(alloc, &sized, 64, &count.to_le_bytes())?;
+    all.extend_from_slice(rows)?;
     let short = (len % 0x1_0000_0000) as u32;
     all.extend_from_slice(&patched(alloc, &FLAT, 104, &short.to_le_bytes())?)?;
     Ok(all)
 }
 
+fn array(alloc: Global, rows: &[i64]) -> Result<Vec<u8>, AllocError> {
+    let mut bytes = Vec::new(alloc);
+    for row in rows {
+        bytes.extend_from_slice(&row.to_le_bytes())?;
+    }
+    array_of(alloc, &bytes)
+}
+
 // A stream of plain arrays.
-fn stream(alloc: Global, arrays: &[&[i64]]) -> Result<Vec<u8>, AllocError> {
+pub(crate) fn stream(alloc: Global, arrays: &[&[i64]]) -> Result<Vec<u8>, AllocError> {
     let mut all = TYPE.to_vec(alloc)?;
     for rows in arrays {
         all.extend_from_slice(&array(alloc, rows)?)?;
@@ -143,7 +150,7 @@ fn ran<L: Ledger>(
     })
 }
 
-fn outcome_of(
+pub(crate) fn outcome_of(
     alloc: Global,
     words: &[&str],
     input: &[u8],
@@ -304,6 +311,29 @@ fn what_has_not_the_form_is_refused(rt: HostRuntime) -> Result<(), Fail> {
             10
         };
         assert_eq!(rt; got.status, want, "cut at {end}");
+    }
+    Ok(())
+}
+
+// Whether what a run wrote is given back by a run with the same words, which keeps each row that it reads.
+fn stays(alloc: Global, words: &[&str], input: &[u8]) -> Result<bool, AllocError> {
+    let once = outcome_of(alloc, words, input, &QUIET)?;
+    let again = outcome_of(alloc, words, &once.output, &QUIET)?;
+    let (arrays, _, kept) = once.counts;
+    Ok(
+        once.status == 0
+            && again.status == 0
+            && again.output.as_slice() == once.output.as_slice()
+            && again.counts == (arrays, kept, kept),
+    )
+}
+
+#[test]
+fn selecting_again_changes_nothing(rt: HostRuntime) -> Result<(), Fail> {
+    let input = stream(rt.alloc(), &[&[i64::MIN, -1, 0], &[], &[1, 0, i64::MAX]])?;
+    for operator in ["eq", "ne", "lt", "ge"] {
+        let words = ["select", ".", operator, "i64:0"];
+        assert!(rt; stays(rt.alloc(), &words, &input)?, "at {operator}");
     }
     Ok(())
 }
