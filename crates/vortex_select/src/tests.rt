@@ -271,6 +271,13 @@ fn faults_of_the_outside_have_their_status(rt: HostRuntime) -> Result<(), Fail> 
     let got = outcome_of(rt.alloc(), &words, &TYPE, &write)?;
     assert_eq!(rt; (got.status, got.output.len()), (8, 5));
     assert_eq!(rt; got.note.as_slice(), b"error: WriteFault\n".as_slice());
+    // The call behind the one write is the flush.
+    let flush = Outside {
+        write_failing: &[1],
+        ..QUIET
+    };
+    let got = outcome_of(rt.alloc(), &words, &TYPE, &flush)?;
+    assert_eq!(rt; (got.status, got.output.len()), (8, TYPE.len()));
     Ok(())
 }
 
