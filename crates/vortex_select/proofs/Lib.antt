@@ -4,6 +4,7 @@ pub mod TypeMessage
 pub mod SelectionLemmas
 pub mod PlainLoops
 pub mod Fields
+pub mod Laying
 pub mod KeptRows
 pub mod ArrayMessage
 pub mod ArrayFound

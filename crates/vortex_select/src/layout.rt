@@ -1,40 +1,85 @@
 //! The bytes that are written.
 
-ghost use Rattle.std.specs.Prelude.{◌≡◌, ◌+◌, ◌/◌, ◌≤◌, ◌<◌, ◌^◌, ◌++◌, length, take, drop, IfOk, OnOk};
-ghost use Rattle.vortex_select.specs.Layout.{array_header, array_message, body_end, kept_region};
+ghost use Rattle.std.specs.Prelude.{◌≡◌, ◌+◌, ◌/◌, ◌≤◌, ◌<◌, ◌^◌, ◌++◌, length, take, drop, IfOk, OnOk, IsSome, Some};
+ghost use Rattle.std.specs.Int.{w32, to_le_bytes};
+ghost use Rattle.vortex_flat.specs.Finish.{IsTable};
+ghost use Rattle.vortex_flat.specs.Item.{tree_of};
+ghost use Rattle.vortex_flat.specs.Layout.{layout_of};
+ghost use Rattle.vortex_select.specs.Layout.{array_header, array_message, body_end, kept_region, type_message};
 
+use crate::items::{column_type, header, plain, plain_body};
 use crate::rows::push_kept;
 use crate::selection::Query;
-use std::alloc::AllocError;
+use std::alloc::{AllocError, Global};
+use vortex_flat::{FlatError, Item, Items, Slots};
 
-/// A message of the column type: its length, a header of 64 bytes, and a body of 48.
-pub(crate) const TYPE_MESSAGE: [u8; 116] = [
-    0x40, 0, 0, 0, //
-    0x18, 0, 0, 0, 0, 0, 0, 0, 0x0C, 0, 0x16, 0, 0x14, 0, 0x15, 0, 0x10, 0, 0x08, 0, 0, 0, 0, 0, //
-    0x10, 0, 0, 0, 0, 0, 0, 0, 0x30, 0, 0, 0, 0, 0, 0, 0, 0x10, 0, 0, 0, 0, 0x03, 0, 0, //
-    0x04, 0, 0x04, 0, 0, 0, 0, 0, 0x08, 0, 0, 0, 0, 0, 0, 0, //
-    0x10, 0, 0, 0, 0, 0, 0, 0, 0x08, 0, 0x09, 0, 0x08, 0, 0x04, 0, 0x08, 0, 0, 0, 0x14, 0, 0, 0, //
-    0x03, 0, 0, 0, 0, 0, 0, 0, 0x08, 0, 0x06, 0, 0x04, 0, 0x05, 0, 0x08, 0, 0, 0, 0x07, 0, 0, 0,
-];
+/// The kind of the message of an array.
+const ARRAY: u8 = 1;
 
-/// The flat buffer of a plain array up to the length of its one buffer.
-const BODY_TO_LENGTH: [u8; 104] = [
-    16, 0, 0, 0, 0, 0, 0, 0, 8, 0, 12, 0, 4, 0, 8, 0, 8, 0, 0, 0, 28, 0, 0, 0, 72, 0, 0, 0, 0, 0,
-    0, 0, 12, 0, 18, 0, 16, 0, 4, 0, 8, 0, 12, 0, 0, 0, 0, 0, 16, 0, 0, 0, 20, 0, 0, 0, 24, 0, 0,
-    0, 28, 0, 0, 0, 0, 0, 0, 0, 0, 0, 0, 0, 0, 0, 0, 0, 0, 0, 0, 0, 0, 0, 0, 0, 0, 0, 0, 0, 1, 0,
-    0, 0, 0, 0, 0, 0, 1, 0, 0, 0, 0, 0, 0, 0,
-];
+/// The kind of the message of the type.
+const TYPE: u8 = 3;
 
-/// The flat buffer from there on, and its length.
-const BODY_REST: [u8; 8] = [0, 0, 0, 0, 112, 0, 0, 0];
+/// How long the header of a plain array is, with its length before it.
+const HEADER_ROOM: usize = 108;
 
-/// The length of the header and the header of a plain array, of no row and with no body yet.
-const ARRAY_HEADER: [u8; 108] = [
-    104, 0, 0, 0, 24, 0, 0, 0, 0, 0, 0, 0, 12, 0, 22, 0, 20, 0, 21, 0, 16, 0, 8, 0, 0, 0, 0, 0, 16,
-    0, 0, 0, 0, 0, 0, 0, 0, 0, 0, 0, 0, 0, 0, 0, 16, 0, 0, 0, 0, 1, 0, 0, 8, 0, 12, 0, 4, 0, 8, 0,
-    8, 0, 0, 0, 0, 0, 0, 0, 8, 0, 0, 0, 0, 0, 0, 0, 1, 0, 0, 0, 4, 0, 0, 0, 16, 0, 0, 0, 118, 111,
-    114, 116, 101, 120, 46, 112, 114, 105, 109, 105, 116, 105, 118, 101, 0, 0, 0, 0,
-];
+/// The layout of a table that has one, so that nothing but want of memory is in the way.
+fn lay_out(alloc: Global, root: &Item) -> Result<Vec<u8>, AllocError>
+    requires table { IsTable (tree_of root.now) }
+    requires fits { IsSome (layout_of (tree_of root.now)) }
+    ensures { IfOk result (λ v. layout_of (tree_of root.now) ≡ Some v.items) }
+{
+    match Items::finish(alloc, root) {
+        Ok(bytes) => Ok(bytes),
+        Err(FlatError::OutOfMemory) => Err(AllocError),
+        Err(FlatError::Outside | FlatError::TooLong) => unreachable!(),
+    }
+}
+
+/// The header of the message of the type.
+fn type_header(alloc: Global, size: u64) -> Result<Vec<u8>, AllocError>
+    requires { size ≡ 48 }
+    ensures { IfOk result (λ v. v.items ≡ take 64 (drop 4 type_message)) }
+{
+    let item = header(alloc, TYPE, Slots::new(Vec::new(alloc)), size)?;
+    lay_out(alloc, &item)
+}
+
+/// The body of that message.
+fn type_body(alloc: Global) -> Result<Vec<u8>, AllocError>
+    ensures { IfOk result (λ v. v.items ≡ drop 68 type_message) }
+{
+    let item = column_type(alloc)?;
+    lay_out(alloc, &item)
+}
+
+/// The header of a message of so many rows, which has a body of that size.
+fn plain_header(alloc: Global, rows: u32, size: u64) -> Result<Vec<u8>, AllocError>
+    ensures { IfOk result (λ v. v.items ≡ drop 4 (array_header rows size)) }
+{
+    let item = header(alloc, ARRAY, plain(alloc, rows)?, size)?;
+    lay_out(alloc, &item)
+}
+
+/// The flat buffer behind the region of a plain array, whose length is given.
+fn plain_flat(alloc: Global, len: u32) -> Result<Vec<u8>, AllocError>
+    ensures { IfOk result (λ v. v.items ≡ take 112 (body_end len)) }
+{
+    let item = plain_body(alloc, len)?;
+    lay_out(alloc, &item)
+}
+
+/// Appends the message of the column type.
+pub(crate) fn push_type(out: &mut Vec<u8>) -> Result<(), AllocError>
+    ensures { OnOk result (out.new.items ≡ out.old.items ++ type_message) }
+{
+    let alloc = *out.allocator();
+    let body = type_body(alloc)?;
+    let header = type_header(alloc, body.len() as u64)?;
+    out.extend_from_slice(&(header.len() as u32).to_le_bytes())?;
+    out.extend_from_slice(&header)?;
+    out.extend_from_slice(&body)?;
+    Ok(())
+}
 
 /// Writes `piece` over the bytes from `at` on.
 fn put(bytes: &mut [u8], at: usize, piece: &[u8])
@@ -52,28 +97,19 @@ fn fill(bytes: &mut Vec<u8>, at: usize, piece: &[u8])
     put(bytes, at, piece);
 }
 
-fn header_of(rows: u32, size: u64) -> [u8; 108]
-    ensures { result ≡ array_header rows size }
+/// Writes a header, with its length before it, over the bytes from `at` on.
+fn fill_header(bytes: &mut Vec<u8>, at: usize, header: &[u8])
+    requires room { at + (4 + length header.now) ≤ length bytes.old.items }
+    requires short { length header.now < 2 ^ 32 }
+    ensures { bytes.new.items ≡ take at bytes.old.items ++ ((to_le_bytes w32 (length header.now) ++ header.now) ++ drop (at + (4 + length header.now)) bytes.old.items) }
 {
-    let mut header = ARRAY_HEADER;
-    put(&mut header, 36, &size.to_le_bytes());
-    put(&mut header, 64, &rows.to_le_bytes());
-    header
-}
-
-/// Appends what follows the region of a plain array, whose length is given.
-fn push_body_end(out: &mut Vec<u8>, len: u32) -> Result<(), AllocError>
-    ensures { OnOk result (out.new.items ≡ out.old.items ++ body_end len) }
-{
-    out.extend_from_slice(&BODY_TO_LENGTH)?;
-    out.extend_from_slice(&len.to_le_bytes())?;
-    out.extend_from_slice(&BODY_REST)?;
-    Ok(())
+    fill(bytes, at, &(header.len() as u32).to_le_bytes());
+    fill(bytes, at + 4, header);
 }
 
 /// Appends the message of a plain array of the rows that are kept, and tells how many they are.
 ///
-/// The header goes first, and its numbers are filled in once the rows stand.
+/// Room is left for the header, which is laid out once the rows stand.
 pub(crate) fn push_selected(
     out: &mut Vec<u8>,
     query: &Query,
@@ -83,11 +119,15 @@ pub(crate) fn push_selected(
     ensures message { OnOk result (out.new.items ≡ out.old.items ++ array_message (kept_region query.now rows.now)) }
     ensures kept { IfOk result (λ kept. kept ≡ length (kept_region query.now rows.now) / 8) }
 {
+    let alloc = *out.allocator();
     let start = out.len();
-    out.extend_from_slice(&ARRAY_HEADER)?;
+    out.extend_from_slice(&[0; HEADER_ROOM])?;
     push_kept(out, query, rows)?;
-    let len = out.len() - start - ARRAY_HEADER.len();
-    fill(out, start, &header_of((len / 8) as u32, len as u64 + 116));
-    push_body_end(out, len as u32)?;
+    let len = out.len() - start - HEADER_ROOM;
+    let flat = plain_flat(alloc, len as u32)?;
+    let header = plain_header(alloc, (len / 8) as u32, (len + flat.len() + 4) as u64)?;
+    fill_header(out, start, &header);
+    out.extend_from_slice(&flat)?;
+    out.extend_from_slice(&(flat.len() as u32).to_le_bytes())?;
     Ok(len / 8)
 }

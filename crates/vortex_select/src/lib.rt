@@ -3,6 +3,7 @@
 
 mod decoding;
 mod error;
+mod items;
 mod laws;
 mod layout;
 mod note;

@@ -6,7 +6,7 @@ ghost use Rattle.vortex_select.specs.Fronts.{IsMade, Reaches};
 
 use crate::decoding::after_type;
 use crate::error::SelectError;
-use crate::layout::{TYPE_MESSAGE, push_selected};
+use crate::layout::{push_selected, push_type};
 use crate::plain::plain_array;
 use crate::report::Counts;
 use crate::selection::Query;
@@ -51,7 +51,7 @@ pub(crate) fn output_for(alloc: Global, query: &Query, input: &[u8]) -> Result<O
         return Err(SelectError::Unbuilt);
     };
     let mut bytes = Vec::with_capacity(alloc, input.len())?;
-    bytes.extend_from_slice(&TYPE_MESSAGE)?;
+    push_type(&mut bytes)?;
     let mut counts = Counts::NONE;
     let mut fronts = Vec::new(alloc);
     while !rest.is_empty() {

@@ -10,7 +10,7 @@ pub loop-rest-init : goal.loop-rest-init
 loop-rest-init c =
     let query = c.args.query.now in
     let start = c.in-Ok.rest.now in
-    let bytes : c.extend_from_slice.new.self.items ≡ type_message = search rules in
+    let bytes : c.push_type.new.out.items ≡ type_message = search rules in
     let fronts : c.new-fronts.result.items ≡ [] = c.new-fronts.ensures.items in
     record {
       progress = rw (bytes, fronts) (progress_start query start);
