@@ -7,8 +7,9 @@ mod rows;
 mod types;
 
 pub use rows::{
-    codes_spell_the_rows, defaults_fit, equal_is_exact, fitting_rows_have_the_form,
-    order_is_that_of_rust, order_is_total, parts_fit, passes_by_parts, paths_find_fitting_rows,
+    codes_spell_the_rows, defaults_fit, distinct_rows_are_the_fewest, equal_is_exact,
+    fitting_rows_have_the_form, order_is_that_of_rust, order_is_total, parts_fit, passes_by_parts,
+    paths_find_fitting_rows,
 };
 pub use types::{
     equality_is_exact, fields_are_names_and_types, limits_are_exact, parts_are_smaller,
