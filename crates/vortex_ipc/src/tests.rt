@@ -92,6 +92,20 @@ impl Write for Full {
     }
 }
 
+/// A device that takes all and hands nothing on.
+#[derive(Drop)]
+struct Stuck;
+
+impl Write for Stuck {
+    fn write(&mut self, bytes: &[u8]) -> io::Result<usize> {
+        Ok(bytes.len())
+    }
+
+    fn flush(&mut self) -> io::Result<()> {
+        Err(io::Error::from(io::ErrorKind::Other))
+    }
+}
+
 /// A device that cannot be read.
 #[derive(Drop)]
 struct Broken;
@@ -125,5 +139,8 @@ fn a_writer_is_a_sink(rt: HostRuntime) -> Result<(), Fail> {
         full.write(b"a").is_err(),
         "a device that takes nothing has failed"
     );
+    let mut stuck = WriteSink::new(Stuck);
+    assert!(rt; write_all(&mut stuck, b"a").is_ok());
+    assert!(rt; stuck.flush().is_err());
     Ok(())
 }
