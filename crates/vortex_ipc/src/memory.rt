@@ -242,6 +242,7 @@ impl Sink for VecSink {
         ensures progress { IfOk result (λ count. 0 < length piece.now → 0 < count) }
         ensures bytes { WriteAppends (Some self.old.written) (Some self.new.written) result piece.now }
         ensures fault { OnErr result (Rose self.old.faults self.new.faults) }
+        ensures no_fault { OnOk result (self.new.faults ≡ self.old.faults) }
         ensures later { self.old.faults ≤ self.new.faults }
     {
         let call = self.calls;
@@ -266,6 +267,7 @@ impl Sink for VecSink {
         // What every sink promises.
         ensures kept { Keeps (Some self.old.written) (Some self.new.written) }
         ensures fault { OnErr result (Rose self.old.faults self.new.faults) }
+        ensures no_fault { OnOk result (self.new.faults ≡ self.old.faults) }
         ensures later { self.old.faults ≤ self.new.faults }
     {
         let call = self.calls;

@@ -29,12 +29,14 @@ pub trait Sink {
         ensures progress { IfOk result (λ count. 0 < length piece.now → 0 < count) }
         ensures bytes { WriteAppends (written self.old) (written self.new) result piece.now }
         ensures fault { OnErr result (Rose (faults self.old) (faults self.new)) }
+        ensures no_fault { OnOk result (faults self.new ≡ faults self.old) }
         ensures later { faults self.old ≤ faults self.new };
 
     /// Hands on what was written so far.
     fn flush(&mut self) -> Result<(), SinkFailed>
         ensures kept { Keeps (written self.old) (written self.new) }
         ensures fault { OnErr result (Rose (faults self.old) (faults self.new)) }
+        ensures no_fault { OnOk result (faults self.new ≡ faults self.old) }
         ensures later { faults self.old ≤ faults self.new };
 }
 
@@ -44,6 +46,7 @@ pub fn write_all<K: Sink>(sink: &mut K, bytes: &[u8]) -> Result<(), ShortWrite>
     ensures short { IfErr result (λ e. (e.written < length bytes.now)
         × Appends (K.written sink.old) (K.written sink.new) (take e.written bytes.now)) }
     ensures fault { OnErr result (Rose (K.faults sink.old) (K.faults sink.new)) }
+    ensures no_fault { OnOk result (K.faults sink.new ≡ K.faults sink.old) }
     ensures later { K.faults sink.old ≤ K.faults sink.new }
 {
     let mut rest = bytes;

@@ -1,12 +1,10 @@
 //! Real sources and sinks. What they give and take is not known to any contract.
 
 ghost use Rattle.std.specs.Prelude.{◌≡◌};
-ghost use Rattle.vortex_ipc.specs.Counts.{no_counts};
 
 use crate::sink::{Sink, SinkFailed};
 use crate::source::{Source, SourceFailed};
 use std::io::{Read, Write};
-use std::marker::Model;
 
 /// A reader of the standard library as a source. It tells no bytes.
 #[derive(Drop)]
@@ -18,17 +16,9 @@ pub struct ReadSource<R> {
     faults: u64,
 }
 
-impl<R> Model for ReadSource<R> {
-    ghost use Rattle.vortex_ipc.specs.Counts.{SourceCounts};
-
-    ghost Value = { SourceCounts };
-
-    ghost view = { λ s. record { reads = s.reads; given = s.given; ends = s.ends; faults = s.faults } };
-}
-
 impl<R: Read> ReadSource<R> {
     pub fn new(inner: R) -> ReadSource<R>
-        ensures { result ≡ no_counts }
+        ensures { result ≡ record { inner = inner; reads = 0; given = 0; ends = 0; faults = 0 } }
     {
         ReadSource {
             inner,
@@ -43,7 +33,7 @@ impl<R: Read> ReadSource<R> {
 impl<R: Read> Source for ReadSource<R> {
     ghost use Rattle.std.specs.Prelude.{None};
 
-    ghost rest = { λ _. None };
+    ghost rest = { λ s. R.remaining s.inner };
 
     ghost faults = { λ s. s.faults };
 
@@ -78,17 +68,9 @@ pub struct WriteSink<W> {
     faults: u64,
 }
 
-impl<W> Model for WriteSink<W> {
-    ghost use Rattle.std.specs.Prelude.{ℕ};
-
-    ghost Value = { ℕ };
-
-    ghost view = { λ s. s.faults };
-}
-
 impl<W: Write> WriteSink<W> {
     pub fn new(inner: W) -> WriteSink<W>
-        ensures { result ≡ 0 }
+        ensures { result ≡ record { inner = inner; faults = 0 } }
     {
         WriteSink { inner, faults: 0 }
     }
@@ -97,9 +79,9 @@ impl<W: Write> WriteSink<W> {
 impl<W: Write> Sink for WriteSink<W> {
     ghost use Rattle.std.specs.Prelude.{None};
 
-    ghost written = { λ _. None };
+    ghost written = { λ s. W.contents s.inner };
 
-    ghost faults = { λ faults. faults };
+    ghost faults = { λ s. s.faults };
 
     fn write(&mut self, piece: &[u8]) -> Result<usize, SinkFailed> {
         match self.inner.write(piece) {

@@ -1,6 +1,6 @@
 //! The top call.
 
-ghost use Rattle.std.specs.Prelude.{◌≡◌, ◌≢◌, ◌↔◌, ◌⊎◌, ◌<◌, ◌≤◌, ℕ, ◌-◌, ◌^◌, List, length, Some, None, IfSome, IfOk, OnOk, IfErr};
+ghost use Rattle.std.specs.Prelude.{◌≡◌, ◌≢◌, ◌↔◌, ◌⊎◌, ◌<◌, ◌≤◌, ℕ, ◌-◌, ◌^◌, List, length, take, Some, None, IfSome, IfOk, OnOk, IfErr};
 ghost use Rattle.std.specs.Io.KnownBytes.{Appends, IsAtEnd};
 ghost use Rattle.vortex_ipc.specs.Counts.{Rose, DidNotRise, RoseBy};
 ghost use Rattle.vortex_select.specs.Words.{texts, IsQuery};
@@ -44,6 +44,9 @@ pub fn run<S: Source, K: Sink, N: Sink, L: Ledger>(
     ensures bad_words { (result.fault ≡ Some RunFault.BadWords) ↔ ((query : Query) → IsQuery (texts words.now) query → ⊥) }
     ensures read_fault { result.fault ≡ Some (RunFault.Select SelectError.ReadFault) → Rose (S.faults source.old) (S.faults source.new) }
     ensures write_fault { result.fault ≡ Some (RunFault.Select SelectError.WriteFault) → Rose (K.faults sink.old) (K.faults sink.new) }
+    ensures no_read_fault { result.fault ≢ Some (RunFault.Select SelectError.ReadFault) → S.faults source.new ≡ S.faults source.old }
+    ensures no_write_fault { result.fault ≢ Some (RunFault.Select SelectError.WriteFault) → K.faults sink.new ≡ K.faults sink.old }
+    ensures untouched { result.fault ≢ None → result.fault ≢ Some (RunFault.Select SelectError.WriteFault) → sink.new ≡ sink.old }
     ensures read_limit { result.fault ≡ Some (RunFault.Select SelectError.ReadLimit)
         → RoseBy (2 ^ 64 - 1) (S.reads source.old) (S.reads source.new) × RoseBy (2 ^ 64 - 1) (S.given source.old) (S.given source.new)
         × IfSome (S.rest source.old) (λ input. 2 ^ 64 - 1 ≤ length input) }
@@ -74,6 +77,7 @@ pub fn run<S: Source, K: Sink, N: Sink, L: Ledger>(
     ensures status { result.status ≡ status_of result.fault }
     ensures note { DidNotRise (N.faults note.old) (N.faults note.new)
         → Appends (N.written note.old) (N.written note.new) (note_of result.counts result.fault) }
+    ensures note_part { (n : ℕ) × Appends (N.written note.old) (N.written note.new) (take n (note_of result.counts result.fault)) }
     ensures steps { steps.new ≡ steps.old }
 {
     let (counts, fault) = match query(words) {
@@ -121,6 +125,10 @@ fn select<S: Source, K: Sink>(
     ensures to_the_end { OnOk result (Rose (S.ends source.old) (S.ends source.new) × IsAtEnd (S.rest source.new)) }
     ensures read_fault { IfErr result (λ e. e.error ≡ SelectError.ReadFault → Rose (S.faults source.old) (S.faults source.new)) }
     ensures write_fault { IfErr result (λ e. e.error ≡ SelectError.WriteFault → Rose (K.faults sink.old) (K.faults sink.new)) }
+    ensures no_read_fault { IfErr result (λ e. e.error ≢ SelectError.ReadFault → S.faults source.new ≡ S.faults source.old) }
+    ensures no_read_fault_ok { OnOk result (S.faults source.new ≡ S.faults source.old) }
+    ensures no_write_fault { IfErr result (λ e. e.error ≢ SelectError.WriteFault → sink.new ≡ sink.old) }
+    ensures no_write_fault_ok { OnOk result (K.faults sink.new ≡ K.faults sink.old) }
     ensures read_limit { IfErr result (λ e. e.error ≡ SelectError.ReadLimit
         → RoseBy (2 ^ 64 - 1) (S.reads source.old) (S.reads source.new) × RoseBy (2 ^ 64 - 1) (S.given source.old) (S.given source.new)
         × IfSome (S.rest source.old) (λ input. 2 ^ 64 - 1 ≤ length input)) }

@@ -16,6 +16,7 @@ pub(crate) fn read_to_end<S: Source>(alloc: Global, source: &mut S) -> Result<Ve
     ensures bytes { IfOk result (λ all. IfSome (S.rest source.old) (λ rest. all.items ≡ rest)) }
     ensures end { OnOk result (Rose (S.ends source.old) (S.ends source.new) × IsAtEnd (S.rest source.new)) }
     ensures read_fault { IsErrOf result SelectError.ReadFault → Rose (S.faults source.old) (S.faults source.new) }
+    ensures no_fault { (IsErrOf result SelectError.ReadFault → ⊥) → S.faults source.new ≡ S.faults source.old }
     ensures read_limit { IsErrOf result SelectError.ReadLimit
         → RoseBy (2 ^ 64 - 1) (S.reads source.old) (S.reads source.new) × RoseBy (2 ^ 64 - 1) (S.given source.old) (S.given source.new) }
     ensures long { IsErrOf result SelectError.ReadLimit → IfSome (S.rest source.old) (λ rest. 2 ^ 64 - 1 ≤ length rest) }

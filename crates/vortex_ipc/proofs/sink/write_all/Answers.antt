@@ -1,4 +1,4 @@
-use Rattle.std.proofs.Common.{arith}
+use Rattle.std.proofs.Common.{◌∙◌}
 use Rattle.vortex_ipc.proofs.Written.{written_more}
 use Rattle.vortex_ipc.proofs.sink.write_all.Goals as goal
 
@@ -7,5 +7,5 @@ loop-rest-preserved g c =
     let written = g.K.Sink.written in
     record {
       parts = rw c.split_at.ensures.back (written_more (written c.args.sink.now) (written c.loop-rest.sink) (written c.write.new.self) c.args.bytes.now c.loop-rest.rest.now c.in-Ok.count c.loop-rest.invariant.parts c.in-Ok.ensures.bytes);
-      later = omega (arith, c.in-Ok.ensures.later);
+      later = c.in-Ok.ensures.no_fault ∙ c.loop-rest.invariant.later;
     }

@@ -1,4 +1,4 @@
-use Rattle.std.proofs.Common.{◌≤◌, length}
+use Rattle.std.proofs.Common.{◌≡◌, ◌≤◌, length}
 use Rattle.std.specs.Io.KnownBytes.{Consumes}
 use Rattle.vortex_ipc.specs.Counts.{RoseBy}
 use Rattle.vortex_select.proofs.reading.read_to_end.Given as goal
@@ -13,5 +13,5 @@ invariant-loop g l =
       reads : RoseBy l.counter (source.reads l.initial.source) (source.reads l.source);
       given : RoseBy l.counter (source.given l.initial.source) (source.given l.source);
       ends : source.ends l.initial.source ≤ source.ends l.source;
-      faults : source.faults l.initial.source ≤ source.faults l.source;
+      faults : source.faults l.source ≡ source.faults l.initial.source;
     }
