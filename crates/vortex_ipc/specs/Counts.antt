@@ -24,13 +24,3 @@ RoseBy n before now = raised_128 before n ≤ now
 abbrev pub TellsEnd : {E : Type 0} → Result ℕ E → List ℕ → Type 0
 TellsEnd (Ok count) piece = (count ≡ 0) × (0 < length piece)
 TellsEnd (Err e) piece = ⊥
-
--- what a source of unknown bytes has counted
-pub record SourceCounts : Type 0 where
-  pub reads : ℕ
-  pub given : ℕ
-  pub ends : ℕ
-  pub faults : ℕ
-
-abbrev pub no_counts : SourceCounts
-no_counts = record { reads = 0; given = 0; ends = 0; faults = 0 }

@@ -31,8 +31,6 @@ impl<R: Read> ReadSource<R> {
 }
 
 impl<R: Read> Source for ReadSource<R> {
-    ghost use Rattle.std.specs.Prelude.{None};
-
     ghost rest = { λ s. R.remaining s.inner };
 
     ghost faults = { λ s. s.faults };
@@ -77,8 +75,6 @@ impl<W: Write> WriteSink<W> {
 }
 
 impl<W: Write> Sink for WriteSink<W> {
-    ghost use Rattle.std.specs.Prelude.{None};
-
     ghost written = { λ s. W.contents s.inner };
 
     ghost faults = { λ s. s.faults };

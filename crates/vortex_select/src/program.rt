@@ -21,9 +21,11 @@ use vortex_ipc::{Sink, SinkFailed, Source, write_all};
 use vortex_steps::Steps;
 
 /// Does what the words ask for: reads a stream of `source` to its end, writes the stream of the rows that are kept to `sink`,
-/// and leaves one line on `note`.
+/// and leaves one line on `note`. Both are flushed.
 ///
-/// The words are `select`, `.`, one of `eq ne lt le gt ge`, and `i64:` with a number.
+/// The words are `select`, `.`, one of `eq ne lt le gt ge`, and `i64:` with a number. The status is 0, 2 for other words,
+/// 6 after too many reads, 7 and 8 after a failed read or write, 9 for lack of memory, or 10 where the input is no stream of
+/// one column of 64 signed bits, never null, in plain arrays.
 pub fn run<S: Source, K: Sink, N: Sink, L: Ledger>(
     alloc: Global,
     words: &[String],
@@ -46,15 +48,14 @@ pub fn run<S: Source, K: Sink, N: Sink, L: Ledger>(
     ensures write_fault { result.fault ≡ Some (RunFault.Select SelectError.WriteFault) → Rose (K.faults sink.old) (K.faults sink.new) }
     ensures no_read_fault { result.fault ≢ Some (RunFault.Select SelectError.ReadFault) → S.faults source.new ≡ S.faults source.old }
     ensures no_write_fault { result.fault ≢ Some (RunFault.Select SelectError.WriteFault) → K.faults sink.new ≡ K.faults sink.old }
-    ensures untouched { result.fault ≢ None → result.fault ≢ Some (RunFault.Select SelectError.WriteFault) → sink.new ≡ sink.old }
     ensures read_limit { result.fault ≡ Some (RunFault.Select SelectError.ReadLimit)
-        → RoseBy (2 ^ 64 - 1) (S.reads source.old) (S.reads source.new) × RoseBy (2 ^ 64 - 1) (S.given source.old) (S.given source.new)
-        × IfSome (S.rest source.old) (λ input. 2 ^ 64 - 1 ≤ length input) }
+        → RoseBy (2 ^ 64 - 1) (S.reads source.old) (S.reads source.new) × RoseBy (2 ^ 64 - 1) (S.given source.old) (S.given source.new) }
+    ensures long { result.fault ≡ Some (RunFault.Select SelectError.ReadLimit) → IfSome (S.rest source.old) (λ input. 2 ^ 64 - 1 ≤ length input) }
     ensures unbuilt { result.fault ≡ Some (RunFault.Select SelectError.Unbuilt)
         → Rose (S.ends source.old) (S.ends source.new) × IfSome (S.rest source.old) (λ input. IsSomeStream input → ⊥) }
 
     // Where the words ask for a query and nothing faults, a stream is selected and anything else is Unbuilt, unless memory
-    // runs out.
+    // runs out. A source may give one byte a read, and 2^64 − 1 reads are made at most.
     ensures streams { (query : Query) → IsQuery (texts words.now) query
         → DidNotRise (S.faults source.old) (S.faults source.new) → DidNotRise (K.faults sink.old) (K.faults sink.new)
         → IfSome (S.rest source.old) (λ input. length input < 2 ^ 64 - 1
@@ -66,8 +67,7 @@ pub fn run<S: Source, K: Sink, N: Sink, L: Ledger>(
 
     // What a refusal leaves.
     ensures nothing_read { result.fault ≡ Some RunFault.BadWords → source.new ≡ source.old }
-    ensures nothing_written { result.fault ≢ None → result.fault ≢ Some (RunFault.Select SelectError.WriteFault)
-        → K.written sink.new ≡ K.written sink.old }
+    ensures nothing_written { result.fault ≢ None → result.fault ≢ Some (RunFault.Select SelectError.WriteFault) → sink.new ≡ sink.old }
     ensures part_written { result.fault ≡ Some (RunFault.Select SelectError.WriteFault) → IfSome (S.rest source.old) (λ input.
         (query : Query) × (part : List ℕ) × IsQuery (texts words.now) query
         × SelectsPart query input part result.counts
@@ -77,7 +77,7 @@ pub fn run<S: Source, K: Sink, N: Sink, L: Ledger>(
     ensures status { result.status ≡ status_of result.fault }
     ensures note { DidNotRise (N.faults note.old) (N.faults note.new)
         → Appends (N.written note.old) (N.written note.new) (note_of result.counts result.fault) }
-    ensures note_part { (n : ℕ) × Appends (N.written note.old) (N.written note.new) (take n (note_of result.counts result.fault)) }
+    ensures part_of_note { (n : ℕ) × Appends (N.written note.old) (N.written note.new) (take n (note_of result.counts result.fault)) }
     ensures steps { steps.new ≡ steps.old }
 {
     let (counts, fault) = match query(words) {
@@ -87,11 +87,21 @@ pub fn run<S: Source, K: Sink, N: Sink, L: Ledger>(
             Err(stopped) => (stopped.counts, Some(RunFault::Select(stopped.error))),
         },
     };
-    let _ = write_all(note, line(&counts, fault).as_bytes());
+    leave(note, &line(&counts, fault));
     RunReport {
         status: status_of(fault),
         counts,
         fault,
+    }
+}
+
+/// Leaves a line on the note. What becomes of it changes nothing else.
+fn leave<N: Sink>(note: &mut N, line: &str)
+    ensures whole { DidNotRise (N.faults note.old) (N.faults note.new) → Appends (N.written note.old) (N.written note.new) line.now }
+    ensures part { (n : ℕ) × Appends (N.written note.old) (N.written note.new) (take n line.now) }
+{
+    if let Ok(()) = write_all(note, line.as_bytes()) {
+        let _ = note.flush();
     }
 }
 
@@ -125,16 +135,14 @@ fn select<S: Source, K: Sink>(
     ensures to_the_end { OnOk result (Rose (S.ends source.old) (S.ends source.new) × IsAtEnd (S.rest source.new)) }
     ensures read_fault { IfErr result (λ e. e.error ≡ SelectError.ReadFault → Rose (S.faults source.old) (S.faults source.new)) }
     ensures write_fault { IfErr result (λ e. e.error ≡ SelectError.WriteFault → Rose (K.faults sink.old) (K.faults sink.new)) }
+    ensures no_faults { OnOk result ((S.faults source.new ≡ S.faults source.old) × (K.faults sink.new ≡ K.faults sink.old)) }
     ensures no_read_fault { IfErr result (λ e. e.error ≢ SelectError.ReadFault → S.faults source.new ≡ S.faults source.old) }
-    ensures no_read_fault_ok { OnOk result (S.faults source.new ≡ S.faults source.old) }
-    ensures no_write_fault { IfErr result (λ e. e.error ≢ SelectError.WriteFault → sink.new ≡ sink.old) }
-    ensures no_write_fault_ok { OnOk result (K.faults sink.new ≡ K.faults sink.old) }
     ensures read_limit { IfErr result (λ e. e.error ≡ SelectError.ReadLimit
-        → RoseBy (2 ^ 64 - 1) (S.reads source.old) (S.reads source.new) × RoseBy (2 ^ 64 - 1) (S.given source.old) (S.given source.new)
-        × IfSome (S.rest source.old) (λ input. 2 ^ 64 - 1 ≤ length input)) }
+        → RoseBy (2 ^ 64 - 1) (S.reads source.old) (S.reads source.new) × RoseBy (2 ^ 64 - 1) (S.given source.old) (S.given source.new)) }
+    ensures long { IfErr result (λ e. e.error ≡ SelectError.ReadLimit → IfSome (S.rest source.old) (λ input. 2 ^ 64 - 1 ≤ length input)) }
     ensures unbuilt { IfErr result (λ e. e.error ≡ SelectError.Unbuilt
         → Rose (S.ends source.old) (S.ends source.new) × IfSome (S.rest source.old) (λ input. IsSomeStream input → ⊥)) }
-    ensures nothing_written { IfErr result (λ e. e.error ≢ SelectError.WriteFault → K.written sink.new ≡ K.written sink.old) }
+    ensures nothing_written { IfErr result (λ e. e.error ≢ SelectError.WriteFault → sink.new ≡ sink.old) }
     ensures part_written { IfErr result (λ e. e.error ≡ SelectError.WriteFault → IfSome (S.rest source.old) (λ input. (part : List ℕ)
         × SelectsPart query.now input part e.counts × Appends (K.written sink.old) (K.written sink.new) part)) }
     ensures no_counts { IfErr result (λ e. e.error ≢ SelectError.WriteFault → e.counts ≡ no_counts) }

@@ -71,7 +71,7 @@ returns-clause-streams g c =
           λ query is no_read no_write. stream_refused known w.in-Err.stopped.error c.status_of.result (Rose (g.S.Source.faults c.args.source.now) (g.S.Source.faults w.select.new.source)) (Rose (g.K.Sink.faults c.args.sink.now) (g.K.Sink.faults w.select.new.sink)) (c.status_of.ensures ∙ ap status_of (fault_of _ _ _ w.fault-is))
           w.in-Err.ensures.read_fault (λ r. no_read (subst (λ s. Rose (g.S.Source.faults c.args.source.now) (g.S.Source.faults s)) (sym w.source-is) r))
           w.in-Err.ensures.write_fault (λ r. no_write (subst (λ s. Rose (g.K.Sink.faults c.args.sink.now) (g.K.Sink.faults s)) (sym w.sink-is) r))
-          (λ e. (w.in-Err.ensures.read_limit e).2) (λ e. (w.in-Err.ensures.unbuilt e).1)
+          w.in-Err.ensures.long (λ e. (w.in-Err.ensures.unbuilt e).1)
     ]
 
 pub returns-clause-others : goal.returns-clause-others
@@ -84,5 +84,5 @@ returns-clause-others g c =
           λ query is no_read no_write. other_refused known w.in-Err.stopped.error c.status_of.result (Rose (g.S.Source.faults c.args.source.now) (g.S.Source.faults w.select.new.source)) (Rose (g.K.Sink.faults c.args.sink.now) (g.K.Sink.faults w.select.new.sink)) (c.status_of.ensures ∙ ap status_of (fault_of _ _ _ w.fault-is))
           w.in-Err.ensures.read_fault (λ r. no_read (subst (λ s. Rose (g.S.Source.faults c.args.source.now) (g.S.Source.faults s)) (sym w.source-is) r))
           w.in-Err.ensures.write_fault (λ r. no_write (subst (λ s. Rose (g.K.Sink.faults c.args.sink.now) (g.K.Sink.faults s)) (sym w.sink-is) r))
-          (λ e. (w.in-Err.ensures.read_limit e).2)
+          w.in-Err.ensures.long
     ]
