@@ -7,7 +7,7 @@ use crate::selection::Query;
 use std::alloc::AllocError;
 
 /// How many rows are looked at before what is kept of them is appended.
-const BLOCK: usize = 1024;
+const BLOCK: usize = 256;
 
 /// Moves the rows that are kept to the front of `block`, and tells how many they are.
 fn keep(query: &Query, rows: &[[u8; 8]], block: &mut [[u8; 8]]) -> usize

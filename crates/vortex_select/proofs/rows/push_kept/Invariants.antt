@@ -7,7 +7,7 @@ use Rattle.vortex_select.proofs.rows.push_kept.Given as goal
 abbrev pub invariant-loop-rest : goal.invariant-loop-rest
 invariant-loop-rest l = record {
   kept : l.out.items ++ flat_map (λ row. row) (filter (keeps l.query) l.rest) ≡ l.initial.out.items ++ flat_map (λ row. row) (filter (keeps l.query) l.initial.rest);
-  long : length l.block ≡ 1024;
+  long : length l.block ≡ 256;
 }
 
 abbrev pub decreases-loop-rest : goal.decreases-loop-rest
