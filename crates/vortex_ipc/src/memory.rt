@@ -11,7 +11,7 @@ use crate::source::{Source, SourceFailed};
 use std::alloc::Global;
 use std::marker::Model;
 
-/// What is left of `wanted` bytes in the call of that number.
+/// How many of `wanted` bytes the call of that number may take.
 fn allowed(sizes: &[usize], call: u128, wanted: usize) -> usize
     ensures { result ≡ allowed sizes.now call wanted }
 {
@@ -56,8 +56,8 @@ impl Model for VecSource {
 }
 
 impl VecSource {
-    /// A source of `bytes`. Its k-th read, counted from 0, gives at most `sizes[k]` bytes, and fails where `failing` has k.
-    /// Past the list the last size holds, an empty list sets no limit, and a size of 0 counts as 1.
+    /// A source of `bytes`. Its k-th read, counted from 0, gives at most `sizes[k]` bytes, and fails where `failing` has
+    /// k. Past the list the last size holds, an empty list sets no limit, and a size of 0 counts as 1.
     pub fn new(bytes: Vec<u8>, sizes: Vec<usize>, failing: Vec<u64>) -> VecSource
         ensures { result ≡ new_source bytes.items sizes.items failing.items }
     {
@@ -117,7 +117,8 @@ impl Source for VecSource {
 
     fn read(&mut self, piece: &mut [u8]) -> Result<usize, SourceFailed>
         ensures failing { is_err result ≡ contains self.old.failing self.old.reads }
-        ensures count { IfOk result (λ count. count ≡ min (allowed self.old.sizes self.old.reads (length piece.new)) (length self.old.rest)) }
+        ensures count { IfOk result (λ count. count
+            ≡ min (allowed self.old.sizes self.old.reads (length piece.new)) (length self.old.rest)) }
         ensures front { IfOk result (λ count. take count piece.new ≡ take count self.old.rest) }
         ensures state { self.new ≡ after_read self.old result (length piece.new) }
 
@@ -172,8 +173,9 @@ impl Model for VecSink {
 }
 
 impl VecSink {
-    /// An empty sink. Its k-th call, writes and flushes numbered together from 0, takes at most `sizes[k]` bytes, and fails where
-    /// `failing` has k. Past the list the last size holds, an empty list sets no limit, and a size of 0 counts as 1.
+    /// An empty sink. Its k-th call, writes and flushes numbered together from 0, takes at most `sizes[k]` bytes, and
+    /// fails where `failing` has k. Past the list the last size holds, an empty list sets no limit, and a size of 0
+    /// counts as 1.
     pub fn new(alloc: Global, sizes: Vec<usize>, failing: Vec<u64>) -> VecSink
         ensures { result ≡ new_sink 0 sizes.items failing.items }
     {

@@ -8,7 +8,7 @@ ghost use Rattle.vortex_select.specs.declared.selection.Operator.{Operator};
 use crate::selection::{Operator, Query};
 
 /// What the words ask for.
-pub fn query(words: &[String]) -> Option<Query>
+pub(crate) fn query(words: &[String]) -> Option<Query>
     ensures found { IfSome result (IsQuery (texts words.now)) }
     ensures none { IfNone result ((query : Query) → IsQuery (texts words.now) query → ⊥) }
 {
@@ -40,7 +40,8 @@ fn operator_named(word: &str) -> Option<Operator>
 
 fn constant_of(word: &str) -> Option<i64>
     ensures found { IfSome result (λ n. (text : List ℕ) × (word.now ≡ codes "i64:" ++ text) × IsInteger text n) }
-    ensures none { IfNone result ((text : List ℕ) (n : ℤ) → word.now ≡ codes "i64:" ++ text → IsInteger text n → ⊥) }
+    ensures none { IfNone result ((text : List ℕ) (n : ℤ)
+        → word.now ≡ codes "i64:" ++ text → IsInteger text n → ⊥) }
 {
     integer(word.strip_prefix("i64:")?)
 }
