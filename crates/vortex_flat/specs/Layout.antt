@@ -201,7 +201,7 @@ abbrev mutual
   tables_fit (numbers xs) = true
   tables_fit (records xs) = true
 
-  -- whether each table that hangs on slots does
+  -- whether each table that hangs on slots keeps to these sizes
   pub targets_fit : Slots → Bool
   targets_fit no_slots = true
   targets_fit (absent s) = targets_fit s
@@ -209,7 +209,7 @@ abbrev mutual
   targets_fit (signed_slot z s) = targets_fit s
   targets_fit (target_slot t s) = tables_fit t && targets_fit s
 
-  -- whether each table that the offsets of a vector lead to does
+  -- whether each table that the offsets of a vector lead to keeps to these sizes
   pub trees_fit : Trees → Bool
   trees_fit no_trees = true
   trees_fit (tree t ts) = tables_fit t && trees_fit ts

@@ -15,8 +15,7 @@ ReadsNumbers b v i (n ∷ ns) = (number b (element v i) v.width ≡ Some n) × R
 
 -- a vector of width w stands at p, and these are its numbers
 abbrev pub ReadsVector : List ℕ → ℕ → ℕ → List ℕ → Type 0
-ReadsVector b p w ns =
-    (v : VectorShape) × (vector_at b p w ≡ Some v) × (v.count ≡ length ns) × ReadsNumbers b v 0 ns
+ReadsVector b p w ns = (v : VectorShape) × (vector_at b p w ≡ Some v) × (v.count ≡ length ns) × ReadsNumbers b v 0 ns
 
 abbrev mutual
   -- the tree stands at p
@@ -41,11 +40,10 @@ abbrev mutual
   -- the trees are what the offsets from element i on lead to
   pub ReadsTrees : List ℕ → VectorShape → ℕ → Trees → Type 0
   ReadsTrees b v i no_trees = Unit {0}
-  ReadsTrees b v i (tree t ts) =
-      ((q : ℕ) × (follow b (element v i) ≡ Some q) × Reads b q t) × ReadsTrees b v (suc i) ts
+  ReadsTrees b v i (tree t ts) = ((q : ℕ) × (follow b (element v i) ≡ Some q) × Reads b q t) × ReadsTrees b v (suc i) ts
 
--- the numbers are such as their widths hold, and a text is UTF-8
 abbrev mutual
+  -- the numbers of a tree are such as their widths hold, and a text is UTF-8
   pub InRange : Tree → Type 0
   InRange (table s) = SlotsInRange s
   InRange (offsets ts) = TreesInRange ts
@@ -54,6 +52,7 @@ abbrev mutual
   InRange (numbers ns) = AllByRecursion (λ n. n < 2 ^ 32) ns
   InRange (records ns) = AllByRecursion (λ n. n < 2 ^ 64) ns
 
+  -- the numbers of slots, and of all that hangs on them, are such as their widths hold
   pub SlotsInRange : Slots → Type 0
   SlotsInRange no_slots = Unit {0}
   SlotsInRange (absent s) = SlotsInRange s
@@ -61,6 +60,7 @@ abbrev mutual
   SlotsInRange (signed_slot z s) = FitsSigned w8 z × SlotsInRange s
   SlotsInRange (target_slot t s) = InRange t × SlotsInRange s
 
+  -- the numbers of the trees of a vector are such as their widths hold
   pub TreesInRange : Trees → Type 0
   TreesInRange no_trees = Unit {0}
   TreesInRange (tree t ts) = InRange t × TreesInRange ts

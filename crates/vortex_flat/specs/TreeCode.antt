@@ -68,9 +68,11 @@ mutual
       λ i. number_slot (wide-inj v w (ap (λ g. num (left (left (right g)))) e) i)
       (ap (λ g. num (right (left (right g)))) e i) (slots_code-inj s r (ap (λ g. right (right g)) e) i)
   slots_code-inj (signed_slot z s) (signed_slot y r) e =
-      λ i. signed_slot (coded_ℤ.inj z y (ap (λ g. left (right g)) e) i) (slots_code-inj s r (ap (λ g. right (right g)) e) i)
+      λ i. signed_slot (coded_ℤ.inj z y (ap (λ g. left (right g)) e) i)
+      (slots_code-inj s r (ap (λ g. right (right g)) e) i)
   slots_code-inj (target_slot t s) (target_slot u r) e =
-      λ i. target_slot (tree_code-inj t u (ap (λ g. left (right g)) e) i) (slots_code-inj s r (ap (λ g. right (right g)) e) i)
+      λ i. target_slot (tree_code-inj t u (ap (λ g. left (right g)) e) i)
+      (slots_code-inj s r (ap (λ g. right (right g)) e) i)
   slots_code-inj _ _ e = absurd (omega (arith, ap (λ g. num (left g)) e))
 
   pub trees_code-inj : (ts us : Trees) → trees_code ts ≡ trees_code us → ts ≡ us

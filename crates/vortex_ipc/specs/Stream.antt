@@ -15,8 +15,7 @@ pub record IsMessage (bytes : List ℕ) (content : Content) (body rest : List �
 
 -- The bytes are one message of an array after another and nothing else, a body for each list of rows. IsArray tells
 -- which rows a body stands for, under the type and what the header tells.
-abbrev pub AreArrays : {T R : Type 0}
-    → (T → ℕ → List (List ℕ) → List ℕ → R → Type 0) → T → List ℕ → List R → Type 0
+abbrev pub AreArrays : {T R : Type 0} → (T → ℕ → List (List ℕ) → List ℕ → R → Type 0) → T → List ℕ → List R → Type 0
 AreArrays IsArray t bytes [] = bytes ≡ []
 AreArrays IsArray t bytes (rows ∷ arrays) =
     (count : ℕ) × (names : List (List ℕ)) × (body : List ℕ) × (rest : List ℕ)

@@ -50,14 +50,22 @@ impl Model for VecSource {
 
     ghost Value = { SourceState };
 
-    ghost view = { λ s. record { rest = drop s.place s.bytes.items; sizes = s.sizes.items; failing = s.failing.items; reads = s.reads; given = s.given; ends = s.ends; faults = s.faults } };
+    ghost view = { λ s. record {
+      rest = drop s.place s.bytes.items;
+      sizes = s.sizes.items;
+      failing = s.failing.items;
+      reads = s.reads;
+      given = s.given;
+      ends = s.ends;
+      faults = s.faults;
+    } };
 
     ghost invariant = { λ s. s.place ≤ vec_len s.bytes };
 }
 
 impl VecSource {
-    /// A source of `bytes`. Its k-th read, counted from 0, gives at most `sizes[k]` bytes, and fails where `failing` has
-    /// k. Past the list the last size holds, an empty list sets no limit, and a size of 0 counts as 1.
+    /// A source of `bytes`. Its k-th read, counted from 0, gives at most `sizes[k]` bytes, and fails where `failing`
+    /// has k. Past the list the last size holds, an empty list sets no limit, and a size of 0 counts as 1.
     pub fn new(bytes: Vec<u8>, sizes: Vec<usize>, failing: Vec<u64>) -> VecSource
         ensures { result ≡ new_source bytes.items sizes.items failing.items }
     {
@@ -167,7 +175,15 @@ impl Model for VecSink {
 
     ghost Value = { SinkState };
 
-    ghost view = { λ s. record { written = s.bytes.items; room = s.room; sizes = s.sizes.items; failing = s.failing.items; calls = s.calls; refused = s.refused; faults = s.faults } };
+    ghost view = { λ s. record {
+      written = s.bytes.items;
+      room = s.room;
+      sizes = s.sizes.items;
+      failing = s.failing.items;
+      calls = s.calls;
+      refused = s.refused;
+      faults = s.faults;
+    } };
 
     ghost invariant = { λ s. s.room ≤ vec_capacity s.bytes };
 }
@@ -236,8 +252,8 @@ impl Sink for VecSink {
         ensures failing { contains self.old.failing self.old.calls ≡ true → IsErr result }
         ensures count { IfOk result (λ count. count ≡ allowed self.old.sizes self.old.calls (length piece.now)) }
         ensures state { self.new ≡ after_write self.old result piece.now }
-        ensures room { length self.old.written + allowed self.old.sizes self.old.calls (length piece.now) ≤ self.old.room
-            → self.new.refused ≡ self.old.refused }
+        ensures room { length self.old.written + allowed self.old.sizes self.old.calls (length piece.now)
+            ≤ self.old.room → self.new.refused ≡ self.old.refused }
 
         // What every sink promises.
         ensures bound { IfOk result (λ count. count ≤ length piece.now) }

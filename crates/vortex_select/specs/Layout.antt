@@ -96,7 +96,8 @@ flat_rest =
 
 -- the length and the header: of how many rows, and how long a body
 abbrev pub array_header : ℕ → ℕ → List ℕ
-array_header rows size = header_to_size ++ (to_le_bytes w64 size ++ (header_to_rows ++ (to_le_bytes w32 rows ++ header_rest)))
+array_header rows size =
+    header_to_size ++ (to_le_bytes w64 size ++ (header_to_rows ++ (to_le_bytes w32 rows ++ header_rest)))
 
 -- the flat buffer for a region of that length, and its length
 abbrev pub body_end : ℕ → List ℕ

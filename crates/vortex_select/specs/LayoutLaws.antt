@@ -23,7 +23,8 @@ type_tree = table (number_slot one 3 (target_slot (table (number_slot one 7 (num
 -- one node: encoding 0, no metadata, no children, buffer 0
 abbrev pub node_tree : Tree
 node_tree =
-    table (number_slot two 0 (target_slot (bytes []) (target_slot (offsets no_trees) (target_slot (numbers (0 ∷ [])) no_slots))))
+    table (number_slot two 0 (target_slot (bytes [])
+    (target_slot (offsets no_trees) (target_slot (numbers (0 ∷ [])) no_slots))))
 
 -- the node, and the record of one buffer of that length: no padding, exponent 0, compression 0
 abbrev pub array_tree : ℕ → Tree
@@ -34,7 +35,7 @@ pub type_header_laid_out : layout_of (header_tree 3 no_slots 48) ≡ Some (take 
 unfolding layout_of
 type_header_laid_out = refl
 
--- its body
+-- the body of the message of the type
 pub type_body_laid_out : layout_of type_tree ≡ Some (drop 68 type_message)
 unfolding layout_of
 type_body_laid_out = refl
@@ -62,5 +63,4 @@ shifted n =
 pub array_body_laid_out : (len : ℕ)
     → layout_of (array_tree len) ≡ Some (flat_to_length ++ (to_le_bytes w32 len ++ 0 ∷ 0 ∷ 0 ∷ 0 ∷ []))
 unfolding layout_of
-array_body_laid_out len =
-    ap (λ (l : List ℕ). Some (take 100 flat_to_length ++ (l ++ 0 ∷ 0 ∷ 0 ∷ 0 ∷ []))) (shifted len)
+array_body_laid_out len = ap (λ (l : List ℕ). Some (take 100 flat_to_length ++ (l ++ 0 ∷ 0 ∷ 0 ∷ 0 ∷ []))) (shifted len)

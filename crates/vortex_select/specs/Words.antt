@@ -30,6 +30,5 @@ pub record IsInteger (text : List ℕ) (n : ℤ) : Type 0 where
 -- The words ask for the rows that bear an operator to a constant.
 pub record IsQuery (words : List (List ℕ)) (query : Query) : Type 0 where
   pub literal : List ℕ
-  pub words_are : words
-      ≡ codes "select" ∷ codes "." ∷ operator_word query.operator ∷ (codes "i64:" ++ literal) ∷ []
+  pub words_are : words ≡ codes "select" ∷ codes "." ∷ operator_word query.operator ∷ (codes "i64:" ++ literal) ∷ []
   pub constant : IsInteger literal query.constant

@@ -40,8 +40,7 @@ fn operator_named(word: &str) -> Option<Operator>
 
 fn constant_of(word: &str) -> Option<i64>
     ensures found { IfSome result (λ n. (text : List ℕ) × (word.now ≡ codes "i64:" ++ text) × IsInteger text n) }
-    ensures none { IfNone result ((text : List ℕ) (n : ℤ)
-        → word.now ≡ codes "i64:" ++ text → IsInteger text n → ⊥) }
+    ensures none { IfNone result ((text : List ℕ) (n : ℤ) → word.now ≡ codes "i64:" ++ text → IsInteger text n → ⊥) }
 {
     integer(word.strip_prefix("i64:")?)
 }
