@@ -10,11 +10,12 @@ pub record Measures (e : Extent) (t : Tree) : Type 0 where
   pub size : e.size ≡ min (size_of t) 4294967296
   pub fits : e.fits ≡ tables_fit t
 
--- the same of all that hangs on slots, and of all that a vector leads to
+-- the size of all that hangs on slots, up to 2 ^ 32, and whether each table of it is small enough
 pub record MeasuresTargets (e : Extent) (s : Slots) : Type 0 where
   pub size : e.size ≡ min (targets_size s) 4294967296
   pub fits : e.fits ≡ targets_fit s
 
+-- the size of all that a vector leads to, up to 2 ^ 32, and whether each table of it is small enough
 pub record MeasuresTrees (e : Extent) (ts : Trees) : Type 0 where
   pub size : e.size ≡ min (trees_size ts) 4294967296
   pub fits : e.fits ≡ trees_fit ts

@@ -12,6 +12,7 @@ Finishes (Err Outside) found = ⊥
 Finishes (Err TooLong) found = found ≡ None
 Finishes (Err OutOfMemory) found = Unit {0}
 
+-- the tree is a table
 abbrev pub IsTable : Tree → Type 0
 IsTable (table s) = Unit {0}
 IsTable (offsets ts) = ⊥

@@ -13,6 +13,7 @@ use Rattle.vortex_flat.specs.declared.item.Items.TheShapes.{weighed-Slots-slots-
 use Rattle.vortex_flat.specs.TreeCode.{tree_weight, slots_weight, trees_weight}
 use Rattle.vortex_flat.specs.Item.{tree_of, slots_from, trees_from}
 
+-- an item is no heavier than its tree
 item_falls : (x : Item) → deep-Item x ≤ tree_weight (tree_of x)
 item_falls (items.Table s) = omega arith
 item_falls (items.Offsets ts) = omega arith
@@ -21,16 +22,20 @@ item_falls (items.Text s) = omega arith
 item_falls (items.Numbers v) = omega arith
 item_falls (items.Records v) = omega arith
 
+-- no item of a list is heavier than their trees together
 items_fall : (xs : List Item) → most deep-Item xs ≤ trees_weight (trees_from xs)
 items_fall [] = omega arith
 items_fall (x ∷ xs) = omega (arith, item_falls x, items_fall xs)
 
+-- the targets of a vector are no heavier than their trees
 pub trees_fall : (s : ItemsInside) → deep-Items s ≤ trees_weight (trees_from s.items.items)
 trees_fall s = omega (arith, items_fall s.items.items)
 
+-- how heavy a field is
 abbrev deep_option : Option Slot → ℕ
 deep_option x = weighed-Slots-slots-at-1.weight Slot deep-Slot x
 
+-- no field of a list is heavier than their slots together
 options_fall : (xs : List (Option Slot)) → most deep_option xs ≤ slots_weight (slots_from xs)
 options_fall [] = omega arith
 options_fall (None ∷ xs) = omega (arith, options_fall xs)
@@ -41,5 +46,6 @@ options_fall (Some (slots.U32 n) ∷ xs) = omega (arith, options_fall xs)
 options_fall (Some (slots.U64 n) ∷ xs) = omega (arith, options_fall xs)
 options_fall (Some (slots.Item t) ∷ xs) = omega (arith, item_falls t, options_fall xs)
 
+-- the fields of a table are no heavier than their slots
 pub slots_fall : (s : SlotsInside) → deep-Slots s ≤ slots_weight (slots_from s.slots.items)
 slots_fall s = omega (arith, options_fall s.slots.items)

@@ -7,16 +7,19 @@ use Rattle.vortex_flat.specs.Tree.{Wide, one, two, four, eight, wide, Tree, tabl
 abbrev pub low_first : ℕ → ℕ → List ℕ
 low_first w n = bytes_low_first 0 w n
 
--- how far it is to the next multiple of 8, that multiple, and zeros up to it
+-- how far it is from n to the next multiple of 8
 abbrev pub gap : ℕ → ℕ
 gap n = (8 - n % 8) % 8
 
+-- the next multiple of 8 from n on
 abbrev pub round_up : ℕ → ℕ
 round_up n = n + gap n
 
+-- the bytes with zeros up to the next multiple of 8
 abbrev pub padded : List ℕ → List ℕ
 padded xs = xs ++ replicate (gap (length xs)) 0
 
+-- whether two widths are the same
 abbrev pub is_wide : Wide → Wide → Bool
 is_wide v w = wide v == wide w
 
@@ -28,19 +31,23 @@ count_of w (number_slot v n s) = if is_wide v w then suc (count_of w s) else cou
 count_of w (signed_slot z s) = if is_wide one w then suc (count_of w s) else count_of w s
 count_of w (target_slot t s) = if is_wide four w then suc (count_of w s) else count_of w s
 
+-- the size of the vtable
 abbrev pub vtable_size : Slots → ℕ
 vtable_size s = 4 + 2 * slot_count s
 
--- Where in a table the next slot of each width goes: the widest come first, from place 4, or 8 where there is one of 8 bytes.
+-- Where in a table the next slot of each width goes: the widest come first, from place 4, or 8 where there is one of 8
+-- bytes.
 pub record Places : Type 0 where
   pub eights : ℕ
   pub fours : ℕ
   pub twos : ℕ
   pub ones : ℕ
 
+-- where in a table the first slot goes
 abbrev pub first_eight : Slots → ℕ
 first_eight s = if count_of eight s == 0 then 4 else 8
 
+-- where in a table the first slot of each width goes
 abbrev pub first_places : Slots → Places
 first_places s = record {
   eights = first_eight s;
@@ -49,9 +56,11 @@ first_places s = record {
   ones = first_eight s + 8 * count_of eight s + 4 * count_of four s + 2 * count_of two s;
 }
 
+-- the size of the inline part
 abbrev pub inline_size : Slots → ℕ
 inline_size s = first_eight s + 8 * count_of eight s + 4 * count_of four s + 2 * count_of two s + count_of one s
 
+-- where in a table the next slot of a width goes
 abbrev pub place_of : Places → Wide → ℕ
 place_of p one = p.ones
 place_of p two = p.twos
@@ -65,7 +74,7 @@ after p two = record p { twos = p.twos + 2 }
 after p four = record p { fours = p.fours + 4 }
 after p eight = record p { eights = p.eights + 8 }
 
--- the entries of the vtable
+-- the entries of the vtable, where these are the places of the next slots
 abbrev pub entries : Slots → Places → List ℕ
 entries no_slots p = []
 entries (absent s) p = low_first 2 0 ++ entries s p
@@ -82,7 +91,7 @@ head (text xs) = 0
 head (numbers xs) = 0
 head (records xs) = 0
 
--- the size of a tree without what hangs on it, and with it
+-- the size of a tree without what hangs on it
 abbrev pub own_size : Tree → ℕ
 own_size (table s) = round_up (vtable_size s) + round_up (inline_size s)
 own_size (offsets ts) = round_up (4 + 4 * tree_count ts)
@@ -92,6 +101,7 @@ own_size (numbers xs) = round_up (4 + 4 * length xs)
 own_size (records xs) = round_up (4 + 8 * length xs)
 
 abbrev mutual
+  -- the size of a tree with all that hangs on it
   pub size_of : Tree → ℕ
   size_of (table s) = own_size (table s) + targets_size s
   size_of (offsets ts) = own_size (offsets ts) + trees_size ts
@@ -100,6 +110,7 @@ abbrev mutual
   size_of (numbers xs) = own_size (numbers xs)
   size_of (records xs) = own_size (records xs)
 
+  -- the size of all that hangs on slots
   pub targets_size : Slots → ℕ
   targets_size no_slots = 0
   targets_size (absent s) = targets_size s
@@ -107,11 +118,12 @@ abbrev mutual
   targets_size (signed_slot z s) = targets_size s
   targets_size (target_slot t s) = size_of t + targets_size s
 
+  -- the size of all that the offsets of a vector lead to
   pub trees_size : Trees → ℕ
   trees_size no_trees = 0
   trees_size (tree t ts) = size_of t + trees_size ts
 
--- the numbers of a width, by number
+-- the bytes of the numbers of a width, in the order of their slots
 abbrev pub slots_of : Wide → Slots → List ℕ
 slots_of w no_slots = []
 slots_of w (absent s) = slots_of w s
@@ -127,19 +139,22 @@ fours_of (number_slot v n s) p q = if is_wide v four then low_first 4 n ++ fours
 fours_of (signed_slot z s) p q = fours_of s p q
 fours_of (target_slot t s) p q = low_first 4 (q + head t - p) ++ fours_of s (p + 4) (q + size_of t)
 
--- the same of a vector's offsets
+-- The offsets of a vector. The first stands at p, and the first target's first byte will be at q.
 abbrev pub offsets_of : Trees → ℕ → ℕ → List ℕ
 offsets_of no_trees p q = []
 offsets_of (tree t ts) p q = low_first 4 (q + head t - p) ++ offsets_of ts (p + 4) (q + size_of t)
 
+-- the vtable: its own size, that of the inline part, and the entries
 abbrev pub vtable_of : Slots → List ℕ
 vtable_of s = low_first 2 (vtable_size s) ++ low_first 2 (inline_size s) ++ entries s (first_places s)
 
+-- the inline part: the distance from the vtable, and then the slots, the widest first
 abbrev pub inline_of : Slots → List ℕ
 inline_of s =
     low_first 4 (head (table s)) ++ replicate (first_eight s - 4) 0 ++ slots_of eight s
     ++ fours_of s (head (table s) + (first_places s).fours) (own_size (table s)) ++ slots_of two s ++ slots_of one s
 
+-- the numbers of a vector, w bytes each
 abbrev pub numbers_of : ℕ → List ℕ → List ℕ
 numbers_of w [] = []
 numbers_of w (n ∷ ns) = low_first w n ++ numbers_of w ns
@@ -153,8 +168,8 @@ own_bytes (text xs) = padded (low_first 4 (length xs) ++ xs ++ 0 ∷ [])
 own_bytes (numbers xs) = padded (low_first 4 (length xs) ++ numbers_of 4 xs)
 own_bytes (records xs) = padded (low_first 4 (length xs) ++ numbers_of 8 xs)
 
--- a tree, and then what hangs on it, target by target
 abbrev mutual
+  -- the bytes of a tree, and then of what hangs on it, target by target
   pub bytes_of : Tree → List ℕ
   bytes_of (table s) = own_bytes (table s) ++ targets_bytes s
   bytes_of (offsets ts) = own_bytes (offsets ts) ++ trees_bytes ts
@@ -163,6 +178,7 @@ abbrev mutual
   bytes_of (numbers xs) = own_bytes (numbers xs)
   bytes_of (records xs) = own_bytes (records xs)
 
+  -- the bytes of all that hangs on slots
   pub targets_bytes : Slots → List ℕ
   targets_bytes no_slots = []
   targets_bytes (absent s) = targets_bytes s
@@ -170,12 +186,13 @@ abbrev mutual
   targets_bytes (signed_slot z s) = targets_bytes s
   targets_bytes (target_slot t s) = bytes_of t ++ targets_bytes s
 
+  -- the bytes of all that the offsets of a vector lead to
   pub trees_bytes : Trees → List ℕ
   trees_bytes no_trees = []
   trees_bytes (tree t ts) = bytes_of t ++ trees_bytes ts
 
--- whether each table keeps to the largest sizes that a vtable can tell
 abbrev mutual
+  -- whether each table of a tree keeps to the largest sizes that a vtable can tell
   pub tables_fit : Tree → Bool
   tables_fit (table s) = nat_le (vtable_size s) 65535 && nat_le (inline_size s) 65535 && targets_fit s
   tables_fit (offsets ts) = trees_fit ts
@@ -184,6 +201,7 @@ abbrev mutual
   tables_fit (numbers xs) = true
   tables_fit (records xs) = true
 
+  -- whether each table that hangs on slots keeps to these sizes
   pub targets_fit : Slots → Bool
   targets_fit no_slots = true
   targets_fit (absent s) = targets_fit s
@@ -191,6 +209,7 @@ abbrev mutual
   targets_fit (signed_slot z s) = targets_fit s
   targets_fit (target_slot t s) = tables_fit t && targets_fit s
 
+  -- whether each table that the offsets of a vector lead to keeps to these sizes
   pub trees_fit : Trees → Bool
   trees_fit no_trees = true
   trees_fit (tree t ts) = tables_fit t && trees_fit ts

@@ -16,10 +16,11 @@ piece_at b i w = if nat_le (i + w) (length b) then Some (take w (drop i b)) else
 unfoldable pub number : List ℕ → ℕ → ℕ → Option ℕ
 number b i w = if nat_le (i + w) (length b) then Some (little_endian (take w (drop i b))) else None
 
--- the two's complement reading of one byte, and of four
+-- the two's complement reading of the byte at place i
 abbrev pub signed_8 : List ℕ → ℕ → Option ℤ
 signed_8 b i = option_map (cast_signed w8) (number b i 1)
 
+-- the two's complement reading of the four bytes from place i on
 abbrev pub signed_32 : List ℕ → ℕ → Option ℤ
 signed_32 b i = option_map (cast_signed w32) (number b i 4)
 

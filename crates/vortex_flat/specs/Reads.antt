@@ -21,7 +21,8 @@ abbrev mutual
   -- the tree stands at p
   pub Reads : List ℕ → ℕ → Tree → Type 0
   Reads b p (table s) = (table_place b p ≡ Some p) × ReadsSlots b p 0 s
-  Reads b p (offsets ts) = (v : VectorShape) × (vector_at b p 4 ≡ Some v) × (v.count ≡ tree_count ts) × ReadsTrees b v 0 ts
+  Reads b p (offsets ts) =
+      (v : VectorShape) × (vector_at b p 4 ≡ Some v) × (v.count ≡ tree_count ts) × ReadsTrees b v 0 ts
   Reads b p (bytes xs) = bytes_at b p ≡ Some xs
   Reads b p (text xs) = text_at b p ≡ Some xs
   Reads b p (numbers ns) = ReadsVector b p 4 ns
@@ -33,15 +34,16 @@ abbrev mutual
   ReadsSlots b p k (absent s) = ((w : ℕ) → field_at b p k w ≡ Some None) × ReadsSlots b p (suc k) s
   ReadsSlots b p k (number_slot w n s) = (number_field b p k (wide w) ≡ Some (Some n)) × ReadsSlots b p (suc k) s
   ReadsSlots b p k (signed_slot z s) = (signed_field b p k ≡ Some (Some z)) × ReadsSlots b p (suc k) s
-  ReadsSlots b p k (target_slot t s) = ((q : ℕ) × (target_field b p k ≡ Some (Some q)) × Reads b q t) × ReadsSlots b p (suc k) s
+  ReadsSlots b p k (target_slot t s) =
+      ((q : ℕ) × (target_field b p k ≡ Some (Some q)) × Reads b q t) × ReadsSlots b p (suc k) s
 
   -- the trees are what the offsets from element i on lead to
   pub ReadsTrees : List ℕ → VectorShape → ℕ → Trees → Type 0
   ReadsTrees b v i no_trees = Unit {0}
   ReadsTrees b v i (tree t ts) = ((q : ℕ) × (follow b (element v i) ≡ Some q) × Reads b q t) × ReadsTrees b v (suc i) ts
 
--- the numbers are such as their widths hold, and a text is UTF-8
 abbrev mutual
+  -- the numbers of a tree are such as their widths hold, and a text is UTF-8
   pub InRange : Tree → Type 0
   InRange (table s) = SlotsInRange s
   InRange (offsets ts) = TreesInRange ts
@@ -50,6 +52,7 @@ abbrev mutual
   InRange (numbers ns) = AllByRecursion (λ n. n < 2 ^ 32) ns
   InRange (records ns) = AllByRecursion (λ n. n < 2 ^ 64) ns
 
+  -- the numbers of slots, and of all that hangs on them, are such as their widths hold
   pub SlotsInRange : Slots → Type 0
   SlotsInRange no_slots = Unit {0}
   SlotsInRange (absent s) = SlotsInRange s
@@ -57,6 +60,7 @@ abbrev mutual
   SlotsInRange (signed_slot z s) = FitsSigned w8 z × SlotsInRange s
   SlotsInRange (target_slot t s) = InRange t × SlotsInRange s
 
+  -- the numbers of the trees of a vector are such as their widths hold
   pub TreesInRange : Trees → Type 0
   TreesInRange no_trees = Unit {0}
   TreesInRange (tree t ts) = InRange t × TreesInRange ts

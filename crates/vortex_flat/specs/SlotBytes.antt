@@ -27,7 +27,10 @@ inline_of_counts c = (if c.eights == 0 then 4 else 8) + 8 * c.eights + 4 * c.fou
 
 -- the extent with what hangs on one more slot
 abbrev pub extent_after : Extent → Option Slot → Extent
-extent_after e (Some (slots.Item t)) = record { size = min (e.size + min (size_of (tree_of t)) 4294967296) 4294967296; fits = e.fits && tables_fit (tree_of t) }
+extent_after e (Some (slots.Item t)) = record {
+  size = min (e.size + min (size_of (tree_of t)) 4294967296) 4294967296;
+  fits = e.fits && tables_fit (tree_of t);
+}
 extent_after e _ = e
 
 -- the bytes that a slot adds to the numbers of a width
@@ -44,6 +47,7 @@ number_bytes w (Some (slots.Item t)) = []
 abbrev pub places_of : RustPlaces → Places
 places_of p = record { eights = p.eights; fours = p.fours; twos = p.twos; ones = p.ones }
 
+-- the places before the first slot, by how many slots have each width
 abbrev pub places_of_counts : Counts → Places
 places_of_counts c = record {
   eights = if c.eights == 0 then 4 else 8;
@@ -52,7 +56,7 @@ places_of_counts c = record {
   ones = (if c.eights == 0 then 4 else 8) + 8 * c.eights + 4 * c.fours + 2 * c.twos;
 }
 
--- the entry of a slot, and the places after it
+-- the entry of a slot in the vtable, 0 where it is absent
 abbrev pub entry_of : Option Slot → Places → ℕ
 entry_of None p = 0
 entry_of (Some (slots.U8 n)) p = p.ones
@@ -62,6 +66,7 @@ entry_of (Some (slots.U32 n)) p = p.fours
 entry_of (Some (slots.U64 n)) p = p.eights
 entry_of (Some (slots.Item t)) p = p.fours
 
+-- the places after a slot
 abbrev pub places_after : Option Slot → Places → Places
 places_after None p = p
 places_after (Some (slots.U8 n)) p = after p one
@@ -78,17 +83,19 @@ pub record HaveRoom (p : Places) (s : Slots) (limit : ℕ) : Type 0 where
   pub twos : p.twos + 2 * count_of two s ≤ limit
   pub ones : p.ones + count_of one s ≤ limit
 
--- where an offset or a number of four bytes, and a target, stand while they are laid down
+-- the four bytes that a slot adds at place p, where the next target's first byte will be at q
 abbrev pub four_bytes : Option Slot → ℕ → ℕ → List ℕ
 four_bytes (Some (slots.U32 n)) p q = low_first 4 n
 four_bytes (Some (slots.Item t)) p q = low_first 4 (q + head (tree_of t) - p)
 four_bytes _ p q = []
 
+-- the place for the next slot of four bytes, after a slot
 abbrev pub four_place : Option Slot → ℕ → ℕ
 four_place (Some (slots.U32 n)) p = p + 4
 four_place (Some (slots.Item t)) p = p + 4
 four_place _ p = p
 
+-- the size of a slot's target with all that hangs on it
 abbrev pub target_size : Option Slot → ℕ
 target_size (Some (slots.Item t)) = size_of (tree_of t)
 target_size _ = 0

@@ -2,6 +2,7 @@
 use Rattle.std.specs.Prelude.{Bool, ℕ, ◌+◌, ◌*◌, ◌%◌, ◌&&◌, ◌==◌, List, length, Option, Some, None, pos, ◌-ℤ◌, nat_le, if◌then◌else◌, option_and_then}
 use Rattle.vortex_flat.specs.Numbers.{number, signed_32, natural}
 
+-- f of what was found, and nothing where nothing was
 infixl 10 ◌>>=◌
 abbrev pub ◌>>=◌ : {A B : Type 0} → Option A → (A → Option B) → Option B
 found >>= f = option_and_then f found
@@ -40,8 +41,9 @@ unfoldable pub field_in : List ℕ → TableShape → ℕ → ℕ → Option (Op
 field_in b t k w =
     if nat_le t.vtable_size (4 + 2 * k) then Some None else (do
       entry ← number b (t.vtable + 4 + 2 * k) 2
-      if entry == 0 then Some None else (if nat_le 4 entry && nat_le (entry + w) t.inline_size then Some (Some (t.place + entry)) else None))
+      if entry == 0 then Some None
+          else (if nat_le 4 entry && nat_le (entry + w) t.inline_size then Some (Some (t.place + entry)) else None))
 
--- the same for the table at place p
+-- where field k, of w bytes, lies in the table at place p
 abbrev pub field_at : List ℕ → ℕ → ℕ → ℕ → Option (Option ℕ)
 field_at b p k w = table_at b p >>= λ t. field_in b t k w

@@ -11,14 +11,15 @@ if_present None f = None
 if_present (Some None) f = Some None
 if_present (Some (Some x)) f = option_map Some (f x)
 
--- a number of w bytes, and a signed byte
+-- the number of w bytes that field k is
 abbrev pub number_field : List ℕ → ℕ → ℕ → ℕ → Option (Option ℕ)
 number_field b p k w = if_present (field_at b p k w) (λ i. number b i w)
 
+-- the signed byte that field k is
 abbrev pub signed_field : List ℕ → ℕ → ℕ → Option (Option ℤ)
 signed_field b p k = if_present (field_at b p k 1) (signed_8 b)
 
--- an offset counts from its own place
+-- the place that the offset at place i leads to: it counts from its own
 abbrev pub follow : List ℕ → ℕ → Option ℕ
 follow b i = option_map (λ distance. i + distance) (number b i 4)
 
@@ -34,6 +35,7 @@ table_place b p = option_map (λ t. t.place) (table_at b p)
 abbrev pub root_place : List ℕ → Option ℕ
 root_place b = option_map (λ t. t.place) (root_at b)
 
+-- the place of the table that a field's offset leads to
 abbrev pub table_field : List ℕ → ℕ → ℕ → Option (Option ℕ)
 table_field b p k = if_present (target_field b p k) (table_place b)
 
@@ -49,6 +51,7 @@ vector_at b p w = do
   n ← number b p 4
   if nat_le (p + 4 + w * n) (length b) then Some (record { first = p + 4; width = w; count = n }) else None
 
+-- the vector of width w that a field's offset leads to
 abbrev pub vector_field : List ℕ → ℕ → ℕ → ℕ → Option (Option VectorShape)
 vector_field b p k w = if_present (target_field b p k) (λ i. vector_at b i w)
 
@@ -56,38 +59,44 @@ vector_field b p k w = if_present (target_field b p k) (λ i. vector_at b i w)
 abbrev pub element : VectorShape → ℕ → ℕ
 element v i = v.first + v.width * i
 
--- the bytes of a vector of width 1
+-- the bytes of the vector of width 1 at place p
 abbrev pub bytes_at : List ℕ → ℕ → Option (List ℕ)
 bytes_at b p = option_map (λ v. take v.count (drop v.first b)) (vector_at b p 1)
 
--- the same, where they are UTF-8
+-- the bytes of the vector of width 1 at place p, where they are UTF-8
 abbrev pub text_at : List ℕ → ℕ → Option (List ℕ)
 text_at b p = bytes_at b p >>= λ text. if is_utf8 text then Some text else None
 
+-- the bytes that a field's offset leads to
 abbrev pub bytes_field : List ℕ → ℕ → ℕ → Option (Option (List ℕ))
 bytes_field b p k = if_present (target_field b p k) (bytes_at b)
 
+-- the text that a field's offset leads to
 abbrev pub text_field : List ℕ → ℕ → ℕ → Option (Option (List ℕ))
 text_field b p k = if_present (target_field b p k) (text_at b)
 
--- element i of a vector of offsets: the table there, and the text there
+-- the place of the table that element i of a vector of offsets leads to
 abbrev pub table_element : List ℕ → VectorShape → ℕ → Option ℕ
 table_element b v i = follow b (element v i) >>= table_place b
 
+-- the text that element i of a vector of offsets leads to
 abbrev pub text_element : List ℕ → VectorShape → ℕ → Option (List ℕ)
 text_element b v i = follow b (element v i) >>= text_at b
 
--- A table and a vector as a reader holds them: the buffer, and where in it.
+-- a table as a reader holds it: the buffer, and the place in it
 pub record TableView : Type 0 where
   pub buffer : List ℕ
   pub place : ℕ
 
+-- a vector as a reader holds it: the buffer, and where in it
 pub record VectorView : Type 0 where
   pub buffer : List ℕ
   pub shape : VectorShape
 
+-- the table at a place of a buffer
 abbrev pub table_view : List ℕ → ℕ → TableView
 table_view b p = record { buffer = b; place = p }
 
+-- the vector of that shape in a buffer
 abbrev pub vector_view : List ℕ → VectorShape → VectorView
 vector_view b v = record { buffer = b; shape = v }

@@ -8,6 +8,7 @@ pub data Wide : Type 0 where
   four : Wide
   eight : Wide
 
+-- the number of bytes
 abbrev pub wide : Wide → ℕ
 wide one = 1
 wide two = 2
@@ -15,6 +16,7 @@ wide four = 4
 wide eight = 8
 
 mutual
+  -- a table, a vector of offsets, bytes, a text, or a vector of numbers of four bytes or of eight
   pub data Tree : Type 0 where
     table : Slots → Tree
     offsets : Trees → Tree
@@ -31,10 +33,12 @@ mutual
     signed_slot : ℤ → Slots → Slots
     target_slot : Tree → Slots → Slots
 
+  -- the trees that the offsets of a vector lead to
   pub data Trees : Type 0 where
     no_trees : Trees
     tree : Tree → Trees → Trees
 
+-- how many slots there are, with those that are absent
 abbrev pub slot_count : Slots → ℕ
 slot_count no_slots = 0
 slot_count (absent s) = suc (slot_count s)
@@ -42,6 +46,7 @@ slot_count (number_slot w n s) = suc (slot_count s)
 slot_count (signed_slot z s) = suc (slot_count s)
 slot_count (target_slot t s) = suc (slot_count s)
 
+-- how many trees there are
 abbrev pub tree_count : Trees → ℕ
 tree_count no_trees = 0
 tree_count (tree t ts) = suc (tree_count ts)

@@ -25,7 +25,7 @@ pub enum Item {
     Text(String),
     /// A vector of numbers of four bytes.
     Numbers(Vec<u32>),
-    /// A vector of records of eight bytes.
+    /// A vector of structs of eight bytes that are aligned to 4.
     Records(Vec<u64>),
 }
 

@@ -60,7 +60,8 @@ impl Places {
         requires fours { self.fours < 65536 }
         requires twos { self.twos < 65536 }
         requires ones { self.ones < 65536 }
-        ensures laid { IfOk result (λ _. out.new.items ≡ out.old.items ++ low_first 2 (entry_of slot.now (places_of self))) }
+        ensures laid { IfOk result (λ _. out.new.items
+            ≡ out.old.items ++ low_first 2 (entry_of slot.now (places_of self))) }
         ensures next { IfOk result (λ p. places_of p ≡ places_after slot.now (places_of self)) }
     {
         put_u16(out, self.entry(slot))?;

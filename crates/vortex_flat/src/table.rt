@@ -148,7 +148,8 @@ impl<'a> Table<'a> {
 
     /// The table that field `k` leads to.
     pub fn field_table(&self, k: u16) -> Result<Option<Table<'a>>, FlatError>
-        ensures { Answers (λ x. x) result (option_map (option_map (table_view self.now.buffer)) (table_field self.now.buffer self.now.place k)) }
+        ensures { Answers (λ x. x) result
+            (option_map (option_map (table_view self.now.buffer)) (table_field self.now.buffer self.now.place k)) }
     {
         let Some(place) = self.target(k)? else {
             return Ok(None);
@@ -176,10 +177,13 @@ impl<'a> Table<'a> {
         Ok(Some(text_at(self.bytes, place)?))
     }
 
-    /// The vector that field `k` leads to, each of whose elements is `width` bytes wide.
+    /// The vector that field `k` leads to, each of whose elements is `width` bytes wide: 1, 4 or 8. No vector of the
+    /// schemas here has elements of two bytes, and [`Vector`] has no call that reads them.
     pub fn field_vector(&self, k: u16, width: usize) -> Result<Option<Vector<'a>>, FlatError>
         requires { (width ≡ 1) ⊎ (width ≡ 4) ⊎ (width ≡ 8) }
-        ensures found { Answers (λ x. x) result (option_map (option_map (vector_view self.now.buffer)) (vector_field self.now.buffer self.now.place k width)) }
+        ensures found { Answers (λ x. x) result
+            (option_map (option_map (vector_view self.now.buffer))
+            (vector_field self.now.buffer self.now.place k width)) }
         ensures width { IfOk result (λ field. IfSome field (λ vector. vector.shape.width ≡ width)) }
     {
         let Some(place) = self.target(k)? else {

@@ -95,7 +95,8 @@ impl<'a> Vector<'a> {
     pub fn table(&self, i: usize) -> Result<Table<'a>, FlatError>
         requires width { self.now.shape.width ≡ 4 }
         requires index { i < self.now.shape.count }
-        ensures { Answers (λ t. t) result (option_map (table_view self.now.buffer) (table_element self.now.buffer self.now.shape i)) }
+        ensures { Answers (λ t. t) result
+            (option_map (table_view self.now.buffer) (table_element self.now.buffer self.now.shape i)) }
     {
         Table::at(self.bytes, follow(self.bytes, self.place_of(i))?)
     }

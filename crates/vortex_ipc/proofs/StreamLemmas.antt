@@ -12,7 +12,7 @@ message_append bytes content body rest more m = record {
   parts = ap (λ (l : List ℕ). l ++ more) m.parts ∙ append_assoc (m.prefix ++ m.header ++ body) rest more;
   prefix_len = m.prefix_len;
   header_len = m.header_len;
-  header_of = m.header_of;
+  header_is = m.header_is;
 }
 
 -- the bytes of a message alone
@@ -31,7 +31,7 @@ message_bytes bytes content body rest m = record {
     parts = sym (append-nil (m.prefix ++ m.header ++ body));
     prefix_len = m.prefix_len;
     header_len = m.header_len;
-    header_of = m.header_of;
+    header_is = m.header_is;
   };
 }
 

@@ -1,10 +1,11 @@
 -- Counts of what the outside did. They never fall, and each stands still at the last value of its type.
 use Rattle.std.specs.Prelude.{◌≡◌, ℕ, zero, suc, ◌+◌, ◌-◌, ◌^◌, ◌<◌, ◌≤◌, min, List, length, Result, Ok, Err}
 
--- a count of 64 bits, and one of 128 bits, after n more
+-- a count of 64 bits after n more
 abbrev pub raised_64 : ℕ → ℕ → ℕ
 raised_64 count n = min (count + n) (2 ^ 64 - 1)
 
+-- a count of 128 bits after n more
 abbrev pub raised_128 : ℕ → ℕ → ℕ
 raised_128 count n = min (count + n) (2 ^ 128 - 1)
 
@@ -12,7 +13,7 @@ raised_128 count n = min (count + n) (2 ^ 128 - 1)
 abbrev pub Rose : ℕ → ℕ → Type 0
 Rose before now = raised_64 before 1 ≤ now
 
--- it neither rose nor stands there
+-- a count of 64 bits neither rose nor stands at its last value
 abbrev pub DidNotRise : ℕ → ℕ → Type 0
 DidNotRise before now = Rose before now → ⊥
 

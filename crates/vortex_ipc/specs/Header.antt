@@ -12,6 +12,7 @@ pub data Content : Type 0 where
   buffer_content : (alignment_exponent : ℕ) → Content
   type_content : Content
 
+-- what a header says: what the message holds, and the size of its body
 pub record Header : Type 0 where
   pub content : Content
   pub body_size : ℕ
@@ -31,6 +32,7 @@ names_in b None = None
 names_in b (Some None) = Some []
 names_in b (Some (Some v)) = if nat_le v.count 65536 then elements (text_element b v) 0 v.count else None
 
+-- what a message of a kind holds, as the table of the kind at place p tells
 unfoldable pub content_at : List ℕ → ℕ → ℕ → Option Content
 content_at b p kind =
     if kind == 1 then (do
@@ -46,6 +48,7 @@ pub record MessageTable : Type 0 where
   pub inner : ℕ
   pub body_size : ℕ
 
+-- what the root table of header bytes says, a Message of version 0
 unfoldable pub message_table_of : List ℕ → Option MessageTable
 message_table_of b = do
   message ← root_at b

@@ -3,8 +3,8 @@ use Rattle.std.specs.Prelude.{Bool, ℕ, ◌+◌, ◌&&◌, ◌==◌, min, max, 
 use Rattle.std.specs.List.{list_any}
 use Rattle.vortex_ipc.specs.Counts.{raised_64, raised_128}
 
--- What is left of n wanted bytes in call k: at most the k-th size, which counts as 1 where it is 0. Past the
--- list the last size holds, and an empty list sets no limit.
+-- How many of n wanted bytes call k may take: at most the k-th size, which counts as 1 where it is 0. Past the list
+-- the last size holds, and an empty list sets no limit.
 abbrev pub allowed : List ℕ → ℕ → ℕ → ℕ
 allowed [] k n = n
 allowed (size ∷ sizes) k n = min n (max 1 (slice_index (size ∷ sizes) (min k (length sizes))))
@@ -23,8 +23,10 @@ pub record SourceState : Type 0 where
   pub ends : ℕ
   pub faults : ℕ
 
+-- a source of these bytes before its first read
 abbrev pub new_source : List ℕ → List ℕ → List ℕ → SourceState
-new_source bytes sizes failing = record { rest = bytes; sizes = sizes; failing = failing; reads = 0; given = 0; ends = 0; faults = 0 }
+new_source bytes sizes failing =
+    record { rest = bytes; sizes = sizes; failing = failing; reads = 0; given = 0; ends = 0; faults = 0 }
 
 -- a sink: what was written, the room that it keeps, the sizes, the numbers of the calls that fail, and the counts
 pub record SinkState : Type 0 where
@@ -36,10 +38,12 @@ pub record SinkState : Type 0 where
   pub refused : ℕ
   pub faults : ℕ
 
+-- an empty sink before its first call
 abbrev pub new_sink : ℕ → List ℕ → List ℕ → SinkState
-new_sink room sizes failing = record { written = []; room = room; sizes = sizes; failing = failing; calls = 0; refused = 0; faults = 0 }
+new_sink room sizes failing =
+    record { written = []; room = room; sizes = sizes; failing = failing; calls = 0; refused = 0; faults = 0 }
 
--- the source after a read that answered so, on a piece of that length
+-- a source after a read that answered so, on a piece of that length
 abbrev pub after_read : {E : Type 0} → SourceState → Result ℕ E → ℕ → SourceState
 after_read s (Ok count) room = record s {
   rest = drop count s.rest;

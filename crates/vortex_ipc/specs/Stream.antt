@@ -11,7 +11,7 @@ pub record IsMessage (bytes : List ℕ) (content : Content) (body rest : List �
   pub parts : bytes ≡ prefix ++ header ++ body ++ rest
   pub prefix_len : length prefix ≡ 4
   pub header_len : little_endian prefix ≡ length header
-  pub header_of : header_of header ≡ Some (record { content = content; body_size = length body })
+  pub header_is : header_of header ≡ Some (record { content = content; body_size = length body })
 
 -- The bytes are one message of an array after another and nothing else, a body for each list of rows. IsArray tells
 -- which rows a body stands for, under the type and what the header tells.
@@ -24,7 +24,8 @@ AreArrays IsArray t bytes (rows ∷ arrays) =
     × AreArrays IsArray t rest arrays
 
 -- The bytes are a stream: a message of a type, whose body stands for it by IsType, and then messages of arrays.
-pub record IsStream {T R : Type 0} (IsType : List ℕ → T → Type 0) (IsArray : T → ℕ → List (List ℕ) → List ℕ → R → Type 0)
+pub record IsStream {T R : Type 0} (IsType : List ℕ → T → Type 0)
+    (IsArray : T → ℕ → List (List ℕ) → List ℕ → R → Type 0)
     (bytes : List ℕ) (t : T) (arrays : List R) : Type 0 where
   pub body : List ℕ
   pub rest : List ℕ

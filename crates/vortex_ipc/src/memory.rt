@@ -11,7 +11,7 @@ use crate::source::{Source, SourceFailed};
 use std::alloc::Global;
 use std::marker::Model;
 
-/// What is left of `wanted` bytes in the call of that number.
+/// How many of `wanted` bytes the call of that number may take.
 fn allowed(sizes: &[usize], call: u128, wanted: usize) -> usize
     ensures { result ≡ allowed sizes.now call wanted }
 {
@@ -50,14 +50,22 @@ impl Model for VecSource {
 
     ghost Value = { SourceState };
 
-    ghost view = { λ s. record { rest = drop s.place s.bytes.items; sizes = s.sizes.items; failing = s.failing.items; reads = s.reads; given = s.given; ends = s.ends; faults = s.faults } };
+    ghost view = { λ s. record {
+      rest = drop s.place s.bytes.items;
+      sizes = s.sizes.items;
+      failing = s.failing.items;
+      reads = s.reads;
+      given = s.given;
+      ends = s.ends;
+      faults = s.faults;
+    } };
 
     ghost invariant = { λ s. s.place ≤ vec_len s.bytes };
 }
 
 impl VecSource {
-    /// A source of `bytes`. Its k-th read, counted from 0, gives at most `sizes[k]` bytes, and fails where `failing` has k.
-    /// Past the list the last size holds, an empty list sets no limit, and a size of 0 counts as 1.
+    /// A source of `bytes`. Its k-th read, counted from 0, gives at most `sizes[k]` bytes, and fails where `failing`
+    /// has k. Past the list the last size holds, an empty list sets no limit, and a size of 0 counts as 1.
     pub fn new(bytes: Vec<u8>, sizes: Vec<usize>, failing: Vec<u64>) -> VecSource
         ensures { result ≡ new_source bytes.items sizes.items failing.items }
     {
@@ -117,7 +125,8 @@ impl Source for VecSource {
 
     fn read(&mut self, piece: &mut [u8]) -> Result<usize, SourceFailed>
         ensures failing { is_err result ≡ contains self.old.failing self.old.reads }
-        ensures count { IfOk result (λ count. count ≡ min (allowed self.old.sizes self.old.reads (length piece.new)) (length self.old.rest)) }
+        ensures count { IfOk result (λ count. count
+            ≡ min (allowed self.old.sizes self.old.reads (length piece.new)) (length self.old.rest)) }
         ensures front { IfOk result (λ count. take count piece.new ≡ take count self.old.rest) }
         ensures state { self.new ≡ after_read self.old result (length piece.new) }
 
@@ -166,14 +175,23 @@ impl Model for VecSink {
 
     ghost Value = { SinkState };
 
-    ghost view = { λ s. record { written = s.bytes.items; room = s.room; sizes = s.sizes.items; failing = s.failing.items; calls = s.calls; refused = s.refused; faults = s.faults } };
+    ghost view = { λ s. record {
+      written = s.bytes.items;
+      room = s.room;
+      sizes = s.sizes.items;
+      failing = s.failing.items;
+      calls = s.calls;
+      refused = s.refused;
+      faults = s.faults;
+    } };
 
     ghost invariant = { λ s. s.room ≤ vec_capacity s.bytes };
 }
 
 impl VecSink {
-    /// An empty sink. Its k-th call, writes and flushes numbered together from 0, takes at most `sizes[k]` bytes, and fails where
-    /// `failing` has k. Past the list the last size holds, an empty list sets no limit, and a size of 0 counts as 1.
+    /// An empty sink. Its k-th call, writes and flushes numbered together from 0, takes at most `sizes[k]` bytes, and
+    /// fails where `failing` has k. Past the list the last size holds, an empty list sets no limit, and a size of 0
+    /// counts as 1.
     pub fn new(alloc: Global, sizes: Vec<usize>, failing: Vec<u64>) -> VecSink
         ensures { result ≡ new_sink 0 sizes.items failing.items }
     {
@@ -234,8 +252,8 @@ impl Sink for VecSink {
         ensures failing { contains self.old.failing self.old.calls ≡ true → IsErr result }
         ensures count { IfOk result (λ count. count ≡ allowed self.old.sizes self.old.calls (length piece.now)) }
         ensures state { self.new ≡ after_write self.old result piece.now }
-        ensures room { length self.old.written + allowed self.old.sizes self.old.calls (length piece.now) ≤ self.old.room
-            → self.new.refused ≡ self.old.refused }
+        ensures room { length self.old.written + allowed self.old.sizes self.old.calls (length piece.now)
+            ≤ self.old.room → self.new.refused ≡ self.old.refused }
 
         // What every sink promises.
         ensures bound { IfOk result (λ count. count ≤ length piece.now) }

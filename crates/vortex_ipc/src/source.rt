@@ -25,7 +25,8 @@ pub trait Source {
     /// How many reads were made, up to `u128::MAX`.
     ghost reads: { Self → ℕ };
 
-    /// Reads the next bytes into the front of `piece`, and tells how many. No byte, on a piece that has room, tells the end.
+    /// Reads the next bytes into the front of `piece`, and tells how many. No byte, on a piece that has room, tells the
+    /// end.
     fn read(&mut self, piece: &mut [u8]) -> Result<usize, SourceFailed>
         ensures bound { IfOk result (λ count. count ≤ length piece.new) }
         ensures bytes { ReadConsumes (rest self.old) (rest self.new) result piece.new }

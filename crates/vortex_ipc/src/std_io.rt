@@ -1,4 +1,5 @@
-//! Real sources and sinks. What they give and take is not known to any contract.
+//! Readers and writers of the standard library as sources and sinks. They tell what the reader's `remaining` and the
+//! writer's `contents` tell, which is nothing for the standard streams.
 
 ghost use Rattle.std.specs.Prelude.{◌≡◌};
 
@@ -6,7 +7,7 @@ use crate::sink::{Sink, SinkFailed};
 use crate::source::{Source, SourceFailed};
 use std::io::{Read, Write};
 
-/// A reader of the standard library as a source. It tells no bytes.
+/// A reader of the standard library as a source, whose bytes still to come are those that the reader tells.
 #[derive(Drop)]
 pub struct ReadSource<R> {
     inner: R,
@@ -17,6 +18,7 @@ pub struct ReadSource<R> {
 }
 
 impl<R: Read> ReadSource<R> {
+    /// A source of what `inner` still has to give. What it gave before is not counted.
     pub fn new(inner: R) -> ReadSource<R>
         ensures { result ≡ record { inner = inner; reads = 0; given = 0; ends = 0; faults = 0 } }
     {
@@ -59,7 +61,8 @@ impl<R: Read> Source for ReadSource<R> {
     }
 }
 
-/// A writer of the standard library as a sink. It tells no bytes. A write that takes nothing has failed.
+/// A writer of the standard library as a sink, whose written bytes are those that the writer tells. A write that takes
+/// nothing has failed.
 #[derive(Drop)]
 pub struct WriteSink<W> {
     inner: W,
@@ -67,6 +70,7 @@ pub struct WriteSink<W> {
 }
 
 impl<W: Write> WriteSink<W> {
+    /// A sink into `inner`. Where the writer tells its bytes, those that it took before are among the written ones.
     pub fn new(inner: W) -> WriteSink<W>
         ensures { result ≡ record { inner = inner; faults = 0 } }
     {

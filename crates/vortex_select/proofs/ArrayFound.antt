@@ -111,7 +111,7 @@ array_found bytes p e =
         parts = h.parts ∙ ap (λ (l : List ℕ). take 4 bytes ++ (header.0.0 ++ l)) f.parts ∙ regroup (take 4 bytes) header.0.0 body.0.0 body.0.1;
         prefix_len = omega (arith, length-take 4 bytes, h.long);
         header_len = h.len;
-        header_of = head.header_is ∙ ap (λ (n : ℕ). Some (record { content = array_content plain.0.rows head.names; body_size = n })) (sym f.len);
+        header_is = head.header_is ∙ ap (λ (n : ℕ). Some (record { content = array_content plain.0.rows head.names; body_size = n })) (sym f.len);
       };
       array = record {
         plain = head.plain;

@@ -139,7 +139,7 @@ array_stands region count lt e =
         parts = sym (append-nil (array_header (length region / 8) (length region + 116) ++ (region ++ body_end (length region))));
         prefix_len = refl;
         header_len = refl;
-        header_of = header;
+        header_is = header;
       };
       array = record {
         plain = All-cons (λ name. name ≡ codes "vortex.primitive") (codes "vortex.primitive") [] refl (All-nil (λ name. name ≡ codes "vortex.primitive"));

@@ -120,7 +120,7 @@ type_size_there header size e =
 -- what follows the message of the type
 pub after_type_there : (bytes body rest : List ℕ) (t : ColumnType) → IsMessage bytes type_content body rest → column_type_of body ≡ Some t → after_type_of bytes ≡ Some rest
 unfolding after_type_of
-after_type_there bytes body rest t m column = rw (message_there bytes body rest type_content m, type_size_there m.header (length body) m.header_of, front_there (body ++ rest) body rest refl, column) refl
+after_type_there bytes body rest t m column = rw (message_there bytes body rest type_content m, type_size_there m.header (length body) m.header_is, front_there (body ++ rest) body rest refl, column) refl
 
 each_plain : (names : List (List ℕ)) → AllByRecursion (λ name. name ≡ codes "vortex.primitive") names → list_all is_plain names ≡ true
 each_plain [] h = refl
@@ -165,7 +165,7 @@ array_there bytes count names body rest rows m h =
     record {
       buffer = b.0;
       count = count;
-      found = found_by bytes m.header body rest b.0 count (length names) (message_there bytes body rest (array_content count names) m) (plain_header_there m.header count (length body) names m.header_of h.plain) b.1;
+      found = found_by bytes m.header body rest b.0 count (length names) (message_there bytes body rest (array_content count names) m) (plain_header_there m.header count (length body) names m.header_is h.plain) b.1;
       values = b.2;
       len = buffer_len count (length names) parts.0 b.0 parts.2;
     }

@@ -85,7 +85,7 @@ after_type_found bytes rest e =
         parts = h.parts ∙ ap (λ (l : List ℕ). take 4 bytes ++ (header.0.0 ++ l)) (b.parts ∙ ap (λ (l : List ℕ). body.0.0 ++ l) rest-is) ∙ regroup (take 4 bytes) header.0.0 body.0.0 rest;
         prefix_len = omega (arith, length-take 4 bytes, h.long);
         header_len = h.len;
-        header_of = type_size_found header.0.0 size.0 size.1 ∙ ap (λ (n : ℕ). Some (record { content = type_content; body_size = n })) (sym b.len);
+        header_is = type_size_found header.0.0 size.0 size.1 ∙ ap (λ (n : ℕ). Some (record { content = type_content; body_size = n })) (sym b.len);
       };
       column = column.1 ∙ ap Some (only_column column.0);
     }

@@ -19,7 +19,7 @@ type_message_is = record {
   parts = refl;
   prefix_len = refl;
   header_len = refl;
-  header_of = refl;
+  header_is = refl;
 }
 
 pub type_body_is : column_type_of type_body ≡ Some i64_column

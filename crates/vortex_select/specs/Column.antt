@@ -24,6 +24,7 @@ column_type_of body = do
   nullable ← or_zero (number_field body primitive 1 1)
   if kind == 3 && ptype == 7 && nullable == 0 then Some i64_column else None
 
+-- the body of a type message stands for this type
 abbrev pub IsColumnType : List ℕ → ColumnType → Type 0
 IsColumnType body t = column_type_of body ≡ Some t
 
@@ -32,20 +33,25 @@ pub record BodyParts : Type 0 where
   pub region : List ℕ
   pub flat : List ℕ
 
+-- the parts of a body, where it has room for both the flat buffer and its length
 unfoldable pub body_parts : List ℕ → Option BodyParts
 body_parts body = do
   len ← number body (length body - 4) 4
   let start : ℕ = length body - 4 - len
-  if nat_le (len + 4) (length body) then Some (record { region = take start body; flat = take len (drop start body) }) else None
+  if nat_le (len + 4) (length body)
+      then Some (record { region = take start body; flat = take len (drop start body) })
+      else None
 
 -- A record of 8 bytes, read as one number, tells a buffer: 2 bytes of padding before it, an alignment exponent, a
--- compression, and 4 bytes of its length.
+-- compression, and 4 bytes of its length. This is the padding.
 abbrev pub padding_of : ℕ → ℕ
 padding_of n = n % 2 ^ 16
 
+-- the compression that a record tells
 abbrev pub compression_of : ℕ → ℕ
 compression_of n = n / 2 ^ 24 % 256
 
+-- the length of the buffer that a record tells
 abbrev pub length_of : ℕ → ℕ
 length_of n = n / 2 ^ 32
 
@@ -54,7 +60,8 @@ unfoldable pub buffers_in : List ℕ → List ℕ → Option (List (List ℕ))
 buffers_in region [] = Some []
 buffers_in region (n ∷ records) =
     if compression_of n == 0 && nat_le (padding_of n + length_of n) (length region)
-    then option_map (λ buffers. take (length_of n) (drop (padding_of n) region) ∷ buffers) (buffers_in (drop (padding_of n + length_of n) region) records)
+    then option_map (λ buffers. take (length_of n) (drop (padding_of n) region) ∷ buffers)
+    (buffers_in (drop (padding_of n + length_of n) region) records)
     else None
 
 -- the numbers of a vector of width 8, and none where it is absent
@@ -105,7 +112,7 @@ plain_buffer_in count names parts = do
   buffer ← buffer_in parts.region (records_in parts.flat (vector_field parts.flat root.place 1 8)) node.buffer
   if nat_lt node.encoding names && length buffer == 8 * count then Some buffer else None
 
--- and that a body stands for
+-- the buffer of so many rows that a body stands for
 abbrev pub plain_buffer_of : ℕ → ℕ → List ℕ → Option (List ℕ)
 plain_buffer_of count names body = body_parts body >>= plain_buffer_in count names
 
@@ -113,11 +120,12 @@ plain_buffer_of count names body = body_parts body >>= plain_buffer_in count nam
 abbrev pub i64_value : List ℕ → ℤ
 i64_value bytes = cast_signed w64 (from_le_bytes w64 bytes)
 
--- n of them
+-- the first n numbers of 64 signed bits in these bytes
 abbrev pub i64_values : ℕ → List ℕ → List ℤ
 i64_values n bytes = map i64_value (first_chunks 8 n bytes)
 
 -- the body of an array message, whose header tells the number of rows and the names of encodings, stands for the rows
-pub record IsPlainArray (t : ColumnType) (count : ℕ) (names : List (List ℕ)) (body : List ℕ) (rows : List ℤ) : Type 0 where
+pub record IsPlainArray (t : ColumnType) (count : ℕ) (names : List (List ℕ)) (body : List ℕ) (rows : List ℤ)
+    : Type 0 where
   pub plain : All (λ name. name ≡ codes "vortex.primitive") names
   pub rows_are : option_map (i64_values count) (plain_buffer_of count (length names) body) ≡ Some rows

@@ -1,4 +1,5 @@
--- What the readers of this crate find, as functions on the bytes. They are shown to find exactly the streams of Theorem.
+-- What the readers of this crate find, as functions on the bytes. They are shown to find exactly the streams of
+-- Theorem.
 use Rattle.std.specs.Prelude.{Bool, ℕ, ◌==◌, List, take, drop, length, Option, Some, None, nat_eq, nat_le, codes, if◌then◌else◌}
 use Rattle.std.specs.List.{list_all}
 use lib.Pointwise.{pointwise}
@@ -35,7 +36,7 @@ pub record PlainHeader : Type 0 where
   pub names : ℕ
   pub body_size : ℕ
 
--- the name of the plain encoding
+-- whether a name is that of the plain encoding
 abbrev pub is_plain : List ℕ → Bool
 is_plain name = pointwise nat_eq name (codes "vortex.primitive")
 
@@ -43,6 +44,7 @@ is_plain name = pointwise nat_eq name (codes "vortex.primitive")
 unfoldable pub plain_count : Option (List (List ℕ)) → Option ℕ
 plain_count names = names >>= λ ns. if list_all is_plain ns then Some (length ns) else None
 
+-- what header bytes say, where they are of an array and each name is that of the plain encoding
 unfoldable pub plain_header_of : List ℕ → Option PlainHeader
 plain_header_of header = do
   message ← message_table_of header

@@ -10,7 +10,8 @@ use Rattle.vortex_select.specs.declared.selecting.Front.{Front}
 use Rattle.vortex_select.specs.declared.selection.Query.{Query}
 
 -- the output up to the end stands for the first n arrays, and the counts are theirs
-pub record IsFront (query : Query) (column : ColumnType) (arrays : List (List ℤ)) (output : List ℕ) (n : ℕ) (front : Front) : Type 0 where
+pub record IsFront (query : Query) (column : ColumnType) (arrays : List (List ℤ)) (output : List ℕ) (n : ℕ)
+    (front : Front) : Type 0 where
   pub within : front.end ≤ length output
   pub stands : IsColumnStream (take front.end output) column (take n (selected query arrays))
   pub counts_are : front.counts ≡ counts_of (take n arrays) (take n (selected query arrays))
@@ -18,7 +19,8 @@ pub record IsFront (query : Query) (column : ColumnType) (arrays : List (List �
 -- one front for each number of arrays from n on
 abbrev pub AreFronts : Query → ColumnType → List (List ℤ) → List ℕ → ℕ → List Front → Type 0
 AreFronts query column arrays output n [] = Unit {0}
-AreFronts query column arrays output n (front ∷ fronts) = IsFront query column arrays output n front × AreFronts query column arrays output (suc n) fronts
+AreFronts query column arrays output n (front ∷ fronts) =
+    IsFront query column arrays output n front × AreFronts query column arrays output (suc n) fronts
 
 -- The input is a stream, the output that of its selected rows, and its fronts are told.
 pub record IsMade (query : Query) (input output : List ℕ) (counts : Counts) (fronts : List Front) : Type 0 where
@@ -34,10 +36,12 @@ pub record IsMade (query : Query) (input output : List ℕ) (counts : Counts) (f
 -- the last front that ends within so many bytes is that of so many arrays, and its counts are told
 abbrev pub IsLastWithin : List Front → ℕ → ℕ → Counts → Type 0
 IsLastWithin fronts bytes zero counts = counts ≡ no_counts
-IsLastWithin fronts bytes (suc i) counts = (front : Front) × (slice_get fronts i ≡ Some front) × (front.end ≤ bytes) × (counts ≡ front.counts)
+IsLastWithin fronts bytes (suc i) counts =
+    (front : Front) × (slice_get fronts i ≡ Some front) × (front.end ≤ bytes) × (counts ≡ front.counts)
 
--- and the next one ends behind them, where there is one
+-- that front is the last one within so many bytes
 pub record Reaches (fronts : List Front) (bytes : ℕ) (counts : Counts) : Type 0 where
   pub whole : ℕ
   pub last : IsLastWithin fronts bytes whole counts
-  pub next : (whole ≡ length fronts) ⊎ ((front : Front) × (slice_get fronts whole ≡ Some front) × (bytes < front.end))
+  pub next : (whole ≡ length fronts)
+      ⊎ ((front : Front) × (slice_get fronts whole ≡ Some front) × (bytes < front.end))

@@ -8,11 +8,13 @@ use Rattle.vortex_select.specs.Layout.{type_message, array_header, flat_to_lengt
 
 -- the header of a message: version 0, a kind, the table of the kind, and the size of the body
 abbrev pub header_tree : ℕ → Slots → ℕ → Tree
-header_tree kind slots size = table (number_slot one 0 (number_slot one kind (target_slot (table slots) (number_slot eight size no_slots))))
+header_tree kind slots size =
+    table (number_slot one 0 (number_slot one kind (target_slot (table slots) (number_slot eight size no_slots))))
 
 -- how many rows, and the one name of an encoding
 abbrev pub array_slots : ℕ → Slots
-array_slots rows = number_slot four rows (target_slot (offsets (tree (text (codes "vortex.primitive")) no_trees)) no_slots)
+array_slots rows =
+    number_slot four rows (target_slot (offsets (tree (text (codes "vortex.primitive")) no_trees)) no_slots)
 
 -- a column of 64 signed bits, never null
 abbrev pub type_tree : Tree
@@ -20,21 +22,27 @@ type_tree = table (number_slot one 3 (target_slot (table (number_slot one 7 (num
 
 -- one node: encoding 0, no metadata, no children, buffer 0
 abbrev pub node_tree : Tree
-node_tree = table (number_slot two 0 (target_slot (bytes []) (target_slot (offsets no_trees) (target_slot (numbers (0 ∷ [])) no_slots))))
+node_tree =
+    table (number_slot two 0 (target_slot (bytes [])
+    (target_slot (offsets no_trees) (target_slot (numbers (0 ∷ [])) no_slots))))
 
 -- the node, and the record of one buffer of that length: no padding, exponent 0, compression 0
 abbrev pub array_tree : ℕ → Tree
 array_tree len = table (target_slot node_tree (target_slot (records (len * 2 ^ 32 ∷ [])) no_slots))
 
+-- the header of the message of the type
 pub type_header_laid_out : layout_of (header_tree 3 no_slots 48) ≡ Some (take 64 (drop 4 type_message))
 unfolding layout_of
 type_header_laid_out = refl
 
+-- the body of the message of the type
 pub type_body_laid_out : layout_of type_tree ≡ Some (drop 68 type_message)
 unfolding layout_of
 type_body_laid_out = refl
 
-pub array_header_laid_out : (rows size : ℕ) → layout_of (header_tree 1 (array_slots rows) size) ≡ Some (drop 4 (array_header rows size))
+-- the header of the message of an array
+pub array_header_laid_out : (rows size : ℕ)
+    → layout_of (header_tree 1 (array_slots rows) size) ≡ Some (drop 4 (array_header rows size))
 unfolding layout_of
 array_header_laid_out rows size = refl
 
@@ -51,6 +59,8 @@ shifted n =
     let b7 : n * 2 ^ 32 / 256 ^ 7 % 256 ≡ n / 256 ^ 3 % 256 = omega arith in
     rw (b0, b1, b2, b3, b4, b5, b6, b7) refl
 
-pub array_body_laid_out : (len : ℕ) → layout_of (array_tree len) ≡ Some (flat_to_length ++ (to_le_bytes w32 len ++ 0 ∷ 0 ∷ 0 ∷ 0 ∷ []))
+-- the flat buffer of a plain array, up to its own length
+pub array_body_laid_out : (len : ℕ)
+    → layout_of (array_tree len) ≡ Some (flat_to_length ++ (to_le_bytes w32 len ++ 0 ∷ 0 ∷ 0 ∷ 0 ∷ []))
 unfolding layout_of
 array_body_laid_out len = ap (λ (l : List ℕ). Some (take 100 flat_to_length ++ (l ++ 0 ∷ 0 ∷ 0 ∷ 0 ∷ []))) (shifted len)

@@ -25,6 +25,7 @@ status_of (Some (Select WriteFault)) = 8
 status_of (Some (Select OutOfMemory)) = 9
 status_of (Some (Select Unbuilt)) = 10
 
+-- the name that the note tells of a fault
 abbrev pub name_of : RunFault → List ℕ
 name_of BadWords = codes "BadWords"
 name_of (Select ReadFault) = codes "ReadFault"
@@ -36,13 +37,15 @@ name_of (Select Unbuilt) = codes "Unbuilt"
 -- the one line of the note
 abbrev pub note_of : Counts → Option RunFault → List ℕ
 note_of counts None =
-    codes "arrays " ++ decimal counts.arrays ++ codes ", read " ++ decimal counts.read ++ codes ", kept " ++ decimal counts.kept ++ codes "\n"
+    codes "arrays " ++ decimal counts.arrays ++ codes ", read " ++ decimal counts.read
+    ++ codes ", kept " ++ decimal counts.kept ++ codes "\n"
 note_of counts (Some fault) = codes "error: " ++ name_of fault ++ codes "\n"
 
+-- the counts of no array
 abbrev pub no_counts : Counts
 no_counts = record { arrays = 0; read = 0; kept = 0 }
 
--- an error that came before an array was written
+-- stopped by this error, with counts of 0
 pub record IsBeforeWriting (error : SelectError) (stopped : Stopped) : Type 0 where
   pub error_is : stopped.error ≡ error
   pub counts_are : stopped.counts ≡ no_counts

@@ -1,4 +1,4 @@
--- What a run that answers 0 has done.
+-- What a run wrote: all of it after status 0, a part of it after a failed write.
 use Rattle.std.specs.Prelude.{◌≡◌, ℕ, suc, ◌<◌, ◌≤◌, List, ◌++◌, length, take, ℤ, ◌⊎◌}
 use Rattle.vortex_ipc.specs.Stream.{IsStream}
 use Rattle.vortex_select.specs.Column.{ColumnType, IsColumnType, IsPlainArray}
@@ -11,7 +11,7 @@ use Rattle.vortex_select.specs.declared.report.Counts.{Counts}
 abbrev pub IsColumnStream : List ℕ → ColumnType → List (List ℤ) → Type 0
 IsColumnStream = IsStream IsColumnType IsPlainArray
 
--- and for some type and arrays
+-- the bytes are a stream of some type and arrays
 abbrev pub IsSomeStream : List ℕ → Type 0
 IsSomeStream bytes = (column : ColumnType) × (arrays : List (List ℤ)) × IsColumnStream bytes column arrays
 
@@ -30,8 +30,8 @@ pub record BeginsWith (bytes : List ℕ) (column : ColumnType) (arrays : List (L
   pub within : len ≤ length bytes
   pub stands : IsColumnStream (take len bytes) column arrays
 
--- A part of such an output, when a write failed: a front of it, in which the first `whole` arrays lie whole and no more,
--- and the counts are theirs.
+-- A part of such an output, when a write failed: a front of it, in which the first `whole` arrays lie whole and no
+-- more, and the counts are theirs.
 pub record SelectsPart (query : Query) (input part : List ℕ) (counts : Counts) : Type 0 where
   pub column : ColumnType
   pub arrays : List (List ℤ)
@@ -42,6 +42,8 @@ pub record SelectsPart (query : Query) (input part : List ℕ) (counts : Counts)
   pub written : IsColumnStream output column (selected query arrays)
   pub laid_out : IsLaidOut output (selected query arrays)
   pub parts : output ≡ part ++ more
-  pub reached : (whole ≡ 0) ⊎ ((len : ℕ) × (len ≤ length part) × BeginsWith output column (take whole (selected query arrays)) len)
-  pub no_more : (whole ≡ length arrays) ⊎ ((len : ℕ) × (length part < len) × BeginsWith output column (take (suc whole) (selected query arrays)) len)
+  pub reached : (whole ≡ 0)
+      ⊎ ((len : ℕ) × (len ≤ length part) × BeginsWith output column (take whole (selected query arrays)) len)
+  pub no_more : (whole ≡ length arrays)
+      ⊎ ((len : ℕ) × (length part < len) × BeginsWith output column (take (suc whole) (selected query arrays)) len)
   pub counts_are : counts ≡ counts_of (take whole arrays) (take whole (selected query arrays))

@@ -20,8 +20,10 @@ message_view m = (m.inner.buffer, record { kind = m.kind; inner = m.inner.place;
 abbrev pub parts_view : Bor (List ℕ) × Bor (List ℕ) → BodyParts
 parts_view p = record { region = p.0.now; flat = p.1.now }
 
+-- what a header of plain arrays says
 abbrev pub plain_header_view : ReadHeader → PlainHeader
 plain_header_view h = record { rows = h.rows; names = h.names; body_size = h.body_size }
 
+-- the places that a node tells
 abbrev pub plain_node_view : ReadNode → PlainNode
 plain_node_view n = record { encoding = n.encoding; buffer = n.buffer }

@@ -5,7 +5,7 @@ ghost use Rattle.vortex_select.specs.declared.error.SelectError.TheVariants.{Out
 use std::alloc::{AllocError, AllocFailed};
 use thiserror::Error;
 
-/// Why a selection ended before its end.
+/// Why a selection failed.
 #[derive(Clone, Copy, Debug, PartialEq, Eq, Error)]
 pub enum SelectError {
     #[error("a read failed")]
@@ -16,7 +16,7 @@ pub enum SelectError {
     ReadLimit,
     #[error("out of memory")]
     OutOfMemory,
-    /// The input is no stream of the form that is built so far.
+    /// The input is no stream of one column of 64 signed bits, never null, in plain arrays (docs/FORMATS.md).
     #[error("not a stream of the form that is built so far")]
     Unbuilt,
 }

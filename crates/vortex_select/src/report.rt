@@ -5,19 +5,25 @@ ghost use Rattle.vortex_select.specs.Report.{status_of};
 
 use crate::error::SelectError;
 
-/// What [`run`](crate::run) did: the exit status, the counts of what was written, and why it ended early.
+/// What [`run`](crate::run) did.
 #[derive(Clone, Copy, Debug, PartialEq, Eq)]
 pub struct RunReport {
+    /// The status that the program exits with.
     pub status: u8,
+    /// The counts of the arrays that lie whole in what was written.
     pub counts: Counts,
+    /// Why the run ended early, and None where it did not.
     pub fault: Option<RunFault>,
 }
 
 /// The numbers of arrays, of their rows, and of the rows kept, over the arrays that were wholly written.
 #[derive(Clone, Copy, Debug, PartialEq, Eq)]
 pub struct Counts {
+    /// How many arrays were written.
     pub arrays: u128,
+    /// How many rows these arrays had in the input.
     pub read: u128,
+    /// How many of their rows were kept.
     pub kept: u128,
 }
 
@@ -33,8 +39,9 @@ impl Counts {
 /// Why a run ended early.
 #[derive(Clone, Copy, Debug, PartialEq, Eq)]
 pub enum RunFault {
-    /// The words of the command line ask for nothing that is built.
+    /// The words are not `select . OP i64:NUMBER`.
     BadWords,
+    /// The words ask for a selection, which failed.
     Select(SelectError),
 }
 

@@ -19,7 +19,7 @@ pub enum Operator {
 
 impl Operator {
     /// Whether it holds of two values that compare so.
-    pub fn bears(self, order: Ordering) -> bool
+    pub(crate) fn bears(self, order: Ordering) -> bool
         ensures { result ≡ bears self order }
     {
         match self {
@@ -42,7 +42,7 @@ pub struct Query {
 
 impl Query {
     /// Whether a row is kept.
-    pub fn keeps(self, row: i64) -> bool
+    pub(crate) fn keeps(self, row: i64) -> bool
         ensures { result ≡ bears self.operator (int_cmp row self.constant) }
     {
         self.operator.bears(row.cmp(&self.constant))

@@ -8,7 +8,7 @@ ghost use Rattle.vortex_select.specs.declared.selection.Operator.{Operator};
 use crate::selection::{Operator, Query};
 
 /// What the words ask for.
-pub fn query(words: &[String]) -> Option<Query>
+pub(crate) fn query(words: &[String]) -> Option<Query>
     ensures found { IfSome result (IsQuery (texts words.now)) }
     ensures none { IfNone result ((query : Query) → IsQuery (texts words.now) query → ⊥) }
 {
