@@ -18,6 +18,11 @@ for file in README.md CONTRIBUTING.md docs/*.md; do
         [ -e "$(dirname "$file")/$target" ] || say "$file leads to $target, which is not there"
     done
 done
+for file in crates/*/specs/*.antt; do
+    # Each file of definitions is named in the documents, with its ending or as a word in backquotes.
+    name=$(basename "$file" .antt)
+    [ "$name" = Lib ] || grep -qE "(^|[^A-Za-z])$name\.antt|\`$name\`" docs/*.md || say "docs/ does not name $file"
+done
 while read -r lines file; do
     [ "$file" = total ] || [ "$lines" -le 800 ] || say "$file has $lines lines, over 800"
 done < <(find crates bench bin scripts docs README.md CONTRIBUTING.md -type f -not -path '*/out/*' \
