@@ -1,6 +1,5 @@
 -- Messages and arrays of a stream, cut and joined.
-use Rattle.std.proofs.Common.{◌≡◌, ℕ, List, [], ◌∷◌, ◌++◌, length, refl, sym, ap, subst, ◌∙◌, append_assoc, append-nil}
-use Rattle.vortex_flat.specs.Numbers.{little_endian}
+use Rattle.std.proofs.Common.{◌≡◌, ℕ, List, [], ◌∷◌, ◌++◌, refl, sym, ap, subst, ◌∙◌, append_assoc, append-nil}
 use Rattle.vortex_ipc.specs.Header.{Content, array_content}
 use Rattle.vortex_ipc.specs.Stream.{IsMessage, AreArrays}
 

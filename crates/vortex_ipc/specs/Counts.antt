@@ -1,5 +1,5 @@
 -- Counts of what the outside did. They never fall, and each stands still at the last value of its type.
-use Rattle.std.specs.Prelude.{◌≡◌, ℕ, zero, suc, ◌+◌, ◌-◌, ◌^◌, ◌<◌, ◌≤◌, min, List, length, Result, Ok, Err}
+use Rattle.std.specs.Prelude.{◌≡◌, ℕ, ◌+◌, ◌-◌, ◌^◌, ◌<◌, ◌≤◌, min, List, length, Result, Ok, Err}
 
 -- a count of 64 bits after n more
 abbrev pub raised_64 : ℕ → ℕ → ℕ

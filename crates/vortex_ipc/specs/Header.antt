@@ -1,7 +1,7 @@
 -- The header of a message (this project's own schema over FlatBuffers): table Message has 0 version u8, which is 0;
 -- 1 kind u8; 2 the table of the kind; 3 body size u64. Table 1, of an array: 0 row count u32; 1 names of encodings, a
 -- vector of strings. Table 2, of a buffer: 0 alignment exponent u8. Table 3, of a type: no field.
-use Rattle.std.specs.Prelude.{◌≡◌, ℕ, zero, suc, ◌+◌, ◌==◌, List, [], ◌∷◌, Option, Some, None, nat_le, unwrap_or, if◌then◌else◌}
+use Rattle.std.specs.Prelude.{ℕ, zero, suc, ◌+◌, ◌==◌, List, [], ◌∷◌, Option, Some, None, nat_le, unwrap_or, if◌then◌else◌}
 use Rattle.std.specs.Option.{option_map, option_flatten}
 use Rattle.vortex_flat.specs.Table.{◌>>=◌, root_at}
 use Rattle.vortex_flat.specs.Targets.{VectorShape, number_field, table_field, vector_field, text_element}

@@ -1,5 +1,5 @@
 -- A source and a sink in memory, for tests: what each call is allowed to take, and which calls fail.
-use Rattle.std.specs.Prelude.{Bool, ℕ, ◌+◌, ◌&&◌, ◌==◌, min, max, List, [], ◌∷◌, ◌++◌, length, take, drop, slice_index, Result, Ok, Err, nat_lt, if◌then◌else◌}
+use Rattle.std.specs.Prelude.{Bool, ℕ, ◌&&◌, ◌==◌, min, max, List, [], ◌∷◌, ◌++◌, length, take, drop, slice_index, Result, Ok, Err, nat_lt, if◌then◌else◌}
 use Rattle.std.specs.List.{list_any}
 use Rattle.vortex_ipc.specs.Counts.{raised_64, raised_128}
 

@@ -2,7 +2,7 @@
 use Rattle.std.proofs.Common.{◌≡◌, ℕ, zero, suc, ◌+◌, ◌*◌, ◌/◌, ◌<◌, ◌≤◌, Bool, true, false, cond, List, [], ◌∷◌, ◌++◌, length, get_or, set, take, drop, map, filter, refl, sym, ap, ◌∙◌, append_assoc, length-append, length-take, length-drop, arith}
 use Rattle.std.proofs.lemmas.List.{take_more_set, take-set, append-nil, take_at, drop_at, length-map}
 use Rattle.std.proofs.lemmas.List.Elements.{filter_more}
-use Rattle.std.specs.Int.{w32, from_bool, to_le_bytes}
+use Rattle.std.specs.Int.{from_bool}
 use Rattle.std.specs.List.{flat_map}
 use Rattle.std.specs.Simd.{first_chunks}
 use Rattle.std.specs.Ordering.{int_cmp}
@@ -10,7 +10,6 @@ use Rattle.vortex_select.specs.Column.{i64_value, i64_values}
 use Rattle.vortex_select.specs.Selection.{bears}
 use Rattle.vortex_select.specs.Layout.{array_header, array_message, body_end, keeps, kept_region}
 use Rattle.vortex_select.specs.declared.selection.Query.{Query}
-use Rattle.vortex_select.proofs.Laying.{counted, header_counted}
 
 -- one more row: it is put at the end of the block, which then ends behind it where it is kept
 pub keep_more : (p : List ℕ → Bool) (xs block : List (List ℕ)) (i n k : ℕ) (b : Bool) → k ≡ from_bool b → p (get_or xs i []) ≡ b → i < length xs → n < length block
@@ -55,22 +54,13 @@ filled old empty region header tail same =
     let back : drop (length old + length header) ((old ++ empty) ++ region) ≡ region = drop_at (old ++ empty) region (length old + length header) (omega (arith, length-append old empty)) in
     rw (front, back) (simp append_assoc)
 
--- the message, once its header is filled in and its end is appended
-pub message_of : (old room region header flat o1 o2 o3 o4 : List ℕ) (start len size : ℕ) → length room ≡ 108 → start ≡ length old → len ≡ length region → size ≡ len + length flat + 4
-    → header ≡ drop 4 (array_header (len / 8) size) → flat ≡ take 112 (body_end len)
-    → o1 ≡ (old ++ room) ++ region → o2 ≡ take start o1 ++ (counted header ++ drop (start + (4 + length header)) o1) → o3 ≡ o2 ++ flat → o4 ≡ o3 ++ to_le_bytes w32 (length flat)
-    → o4 ≡ old ++ array_message region
-message_of old room region header flat o1 o2 o3 o4 start len size e-room e-start e-len e-size e-header e-flat e1 e2 e3 e4 =
-    let n-flat : length flat ≡ 112 = ap length e-flat in
-    let whole-size : size ≡ len + 116 = omega arith in
-    let head : counted header ≡ array_header (len / 8) (len + 116) = header_counted header (len / 8) size e-header ∙ ap (array_header (len / 8)) whole-size in
-    let wide : 4 + length header ≡ length (counted header) = omega arith in
-    let same : length room ≡ length (counted header) = e-room ∙ sym (ap length head) in
-    let end : flat ++ to_le_bytes w32 (length flat) ≡ body_end len = ap (λ (l : List ℕ). l ++ to_le_bytes w32 (length l)) e-flat in
-    let at : o2 ≡ take (length old) ((old ++ room) ++ region) ++ (counted header ++ drop (length old + length (counted header)) ((old ++ room) ++ region)) = e2 ∙ ap (λ (l : List ℕ). take start l ++ (counted header ++ drop (start + (4 + length header)) l)) e1 ∙ ap (λ j. take j ((old ++ room) ++ region) ++ (counted header ++ drop (j + (4 + length header)) ((old ++ room) ++ region))) e-start ∙ ap (λ j. take (length old) ((old ++ room) ++ region) ++ (counted header ++ drop (length old + j) ((old ++ room) ++ region))) wide in
-    let last : o4 ≡ o2 ++ body_end len = e4 ∙ ap (λ (l : List ℕ). l ++ to_le_bytes w32 (length flat)) e3 ∙ append_assoc o2 flat (to_le_bytes w32 (length flat)) ∙ ap (λ (l : List ℕ). o2 ++ l) end in
-    let whole : o4 ≡ old ++ (counted header ++ (region ++ body_end len)) = last ∙ ap (λ (l : List ℕ). l ++ body_end len) at ∙ filled old room region (counted header) (body_end len) same in
-    whole ∙ ap (λ (l : List ℕ). old ++ (l ++ (region ++ body_end len))) head ∙ ap (λ j. old ++ (array_header (j / 8) (j + 116) ++ (region ++ body_end j))) e-len
+-- the message, once a frame is put around its region
+pub message_of : (old room region o1 o2 : List ℕ) (start len : ℕ) → length room ≡ 108 → start ≡ length old → len ≡ length region → o1 ≡ (old ++ room) ++ region
+    → o2 ≡ (take start o1 ++ (array_header (len / 8) (len + 116) ++ drop (start + 108) o1)) ++ body_end len → o2 ≡ old ++ array_message region
+message_of old room region o1 o2 start len e-room e-start e-len e1 e2 =
+    let header = array_header (len / 8) (len + 116) in
+    let at : o2 ≡ (take (length old) ((old ++ room) ++ region) ++ (header ++ drop (length old + length header) ((old ++ room) ++ region))) ++ body_end len = e2 ∙ ap (λ (l : List ℕ). (take start l ++ (header ++ drop (start + 108) l)) ++ body_end len) e1 ∙ ap (λ j. (take j ((old ++ room) ++ region) ++ (header ++ drop (j + 108) ((old ++ room) ++ region))) ++ body_end len) e-start in
+    at ∙ filled old room region header (body_end len) e-room ∙ ap (λ j. old ++ (array_header (j / 8) (j + 116) ++ (region ++ body_end j))) e-len
 
 -- ---- values
 

@@ -1,5 +1,5 @@
 -- What is laid out, and how the messages are put together of it.
-use Rattle.std.proofs.Common.{◌≡◌, ℕ, ◌+◌, ◌≤◌, List, ◌++◌, length, take, drop, Option, Some, refl, sym, ap, ◌∙◌, subst, append_assoc, length-append, length-take, arith}
+use Rattle.std.proofs.Common.{◌≡◌, ℕ, ◌+◌, ◌/◌, ◌≤◌, List, ◌++◌, length, take, drop, Option, Some, refl, sym, ap, ◌∙◌, subst, append_assoc, length-append, length-take, arith}
 use Rattle.std.specs.Prelude.{IsSome, IfOk, Vec, Result, Ok, Err}
 use Rattle.std.specs.Global.{Global}
 use Rattle.std.specs.declared.alloc.AllocError.{AllocError}
@@ -7,7 +7,7 @@ use Rattle.std.specs.Int.{w32, to_le_bytes}
 use Rattle.std.proofs.lemmas.List.{take_at, drop_at, drop-drop}
 use Rattle.vortex_flat.specs.Tree.{Tree}
 use Rattle.vortex_flat.specs.Layout.{layout_of}
-use Rattle.vortex_select.specs.Layout.{array_header}
+use Rattle.vortex_select.specs.Layout.{array_header, body_end}
 
 -- ---- one layout
 
@@ -44,3 +44,15 @@ put_twice b0 b1 b2 piece p q at e0 room e1 e2 =
     let place : k + length q ≡ at + (length p + length q) = omega arith in
     let joined : front ++ (q ++ drop (k + length q) b0) ≡ take at b0 ++ ((p ++ q) ++ drop (k + length q) b0) = simp append_assoc in
     both ∙ joined ∙ ap (λ j. take at b0 ++ ((p ++ q) ++ drop j b0)) place
+
+-- a frame around the region behind the room for its header
+pub frame_put : (o o1 o2 o3 header flat end : List ℕ) (start len : ℕ) → header ≡ drop 4 (array_header (len / 8) (len + 116)) → flat ≡ take 112 (body_end len) → end ≡ to_le_bytes w32 (length flat)
+    → o1 ≡ take start o ++ (counted header ++ drop (start + (4 + length header)) o) → o2 ≡ o1 ++ flat → o3 ≡ o2 ++ end
+    → o3 ≡ (take start o ++ (array_header (len / 8) (len + 116) ++ drop (start + 108) o)) ++ body_end len
+frame_put o o1 o2 o3 header flat end start len e-header e-flat e-end e1 e2 e3 =
+    let whole = array_header (len / 8) (len + 116) in
+    let head : counted header ≡ whole = header_counted header (len / 8) (len + 116) e-header in
+    let wide : start + (4 + length header) ≡ start + 108 = omega (arith, ap length e-header) in
+    let front : o1 ≡ take start o ++ (whole ++ drop (start + 108) o) = e1 ∙ ap (λ (l : List ℕ). take start o ++ (l ++ drop (start + (4 + length header)) o)) head ∙ ap (λ j. take start o ++ (whole ++ drop j o)) wide in
+    let last : flat ++ end ≡ body_end len = ap (λ (l : List ℕ). flat ++ l) e-end ∙ ap (λ (l : List ℕ). l ++ to_le_bytes w32 (length l)) e-flat in
+    e3 ∙ ap (λ (l : List ℕ). l ++ end) e2 ∙ append_assoc o1 flat end ∙ ap (λ (l : List ℕ). o1 ++ l) last ∙ ap (λ (l : List ℕ). l ++ body_end len) front

@@ -19,9 +19,6 @@ const ARRAY: u8 = 1;
 /// The kind of the message of the type.
 const TYPE: u8 = 3;
 
-/// How long the header of a plain array is, with its length before it.
-const HEADER_ROOM: usize = 108;
-
 /// The layout of a table that has one, so that nothing but want of memory is in the way.
 fn lay_out(alloc: Global, root: &Item) -> Result<Vec<u8>, AllocError>
     requires table { IsTable (tree_of root.now) }
@@ -53,7 +50,7 @@ fn type_body(alloc: Global) -> Result<Vec<u8>, AllocError>
 }
 
 /// The header of a message of so many rows, which has a body of that size.
-fn plain_header(alloc: Global, rows: u32, size: u64) -> Result<Vec<u8>, AllocError>
+pub(crate) fn plain_header(alloc: Global, rows: u32, size: u64) -> Result<Vec<u8>, AllocError>
     ensures { IfOk result (λ v. v.items ≡ drop 4 (array_header rows size)) }
 {
     let item = header(alloc, ARRAY, plain(alloc, rows)?, size)?;
@@ -61,7 +58,7 @@ fn plain_header(alloc: Global, rows: u32, size: u64) -> Result<Vec<u8>, AllocErr
 }
 
 /// The flat buffer behind the region of a plain array, whose length is given.
-fn plain_flat(alloc: Global, len: u32) -> Result<Vec<u8>, AllocError>
+pub(crate) fn plain_flat(alloc: Global, len: u32) -> Result<Vec<u8>, AllocError>
     ensures { IfOk result (λ v. v.items ≡ take 112 (body_end len)) }
 {
     let item = plain_body(alloc, len)?;
@@ -98,36 +95,11 @@ fn fill(bytes: &mut Vec<u8>, at: usize, piece: &[u8])
 }
 
 /// Writes a header, with its length before it, over the bytes from `at` on.
-fn fill_header(bytes: &mut Vec<u8>, at: usize, header: &[u8])
+pub(crate) fn fill_header(bytes: &mut Vec<u8>, at: usize, header: &[u8])
     requires room { at + (4 + length header.now) ≤ length bytes.old.items }
     requires short { length header.now < 2 ^ 32 }
     ensures { bytes.new.items ≡ take at bytes.old.items ++ ((to_le_bytes w32 (length header.now) ++ header.now) ++ drop (at + (4 + length header.now)) bytes.old.items) }
 {
     fill(bytes, at, &(header.len() as u32).to_le_bytes());
     fill(bytes, at + 4, header);
-}
-
-/// Appends the message of a plain array of the rows that are kept, and tells how many they are.
-///
-/// Room is left for the header, which is laid out once the rows stand.
-pub(crate) fn push_selected(
-    out: &mut Vec<u8>,
-    query: &Query,
-    rows: &[u8],
-) -> Result<usize, AllocError>
-    requires { length rows.now < 2 ^ 32 }
-    ensures message { OnOk result (out.new.items ≡ out.old.items ++ array_message (kept_region query.now rows.now)) }
-    ensures kept { IfOk result (λ kept. kept ≡ length (kept_region query.now rows.now) / 8) }
-{
-    let alloc = *out.allocator();
-    let start = out.len();
-    out.extend_from_slice(&[0; HEADER_ROOM])?;
-    push_kept(out, query, rows)?;
-    let len = out.len() - start - HEADER_ROOM;
-    let flat = plain_flat(alloc, len as u32)?;
-    let header = plain_header(alloc, (len / 8) as u32, (len + flat.len() + 4) as u64)?;
-    fill_header(out, start, &header);
-    out.extend_from_slice(&flat)?;
-    out.extend_from_slice(&(flat.len() as u32).to_le_bytes())?;
-    Ok(len / 8)
 }

@@ -1,6 +1,7 @@
 //! Selects rows of a stream of columns: the top call, and what stands behind each of its answers.
 #![tactic(auto)]
 
+mod arrays;
 mod decoding;
 mod error;
 mod items;

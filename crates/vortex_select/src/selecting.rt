@@ -4,9 +4,10 @@ ghost use Rattle.std.specs.Prelude.{◌≡◌, ◌⊎◌, IfOk, IfErr, IsErrOf};
 ghost use Rattle.vortex_select.specs.Theorem.{IsSomeStream};
 ghost use Rattle.vortex_select.specs.Fronts.{IsMade, Reaches};
 
+use crate::arrays::{Frames, push_selected};
 use crate::decoding::after_type;
 use crate::error::SelectError;
-use crate::layout::{push_selected, push_type};
+use crate::layout::push_type;
 use crate::plain::plain_array;
 use crate::report::Counts;
 use crate::selection::Query;
@@ -54,11 +55,12 @@ pub(crate) fn output_for(alloc: Global, query: &Query, input: &[u8]) -> Result<O
     push_type(&mut bytes)?;
     let mut counts = Counts::NONE;
     let mut fronts = Vec::new(alloc);
+    let mut frames = Frames::new(alloc)?;
     while !rest.is_empty() {
         let Ok((rows, after)) = plain_array(rest) else {
             return Err(SelectError::Unbuilt);
         };
-        let kept = push_selected(&mut bytes, query, rows)?;
+        let kept = push_selected(&mut bytes, &mut frames, query, rows)?;
         counts = Counts {
             arrays: counts.arrays + 1,
             read: counts.read + (rows.len() / 8) as u128,

@@ -1,4 +1,4 @@
-use Rattle.std.proofs.Common.{◌≡◌, length, take, drop, ◌∙◌, sym, ap, arith}
+use Rattle.std.proofs.Common.{◌≡◌, take, drop, ◌∙◌, ap, arith}
 use Rattle.std.proofs.lemmas.List.{take_at}
 use Rattle.std.proofs.lemmas.Grind.{common_steps}
 use Rattle.vortex_ipc.proofs.memory.VecSource.give.Goals as goal
