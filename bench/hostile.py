@@ -116,6 +116,7 @@ STREAMS = [
     ("good: arrays of 100 rows", SELECTED, lambda size: filled(size, SMALL)),
     ("arrays of no rows", SELECTED, lambda size: filled(size, rows_message(0))),
     ("arrays of no rows in 141 bytes", SELECTED, lambda size: filled(size, short_message())),
+    ("arrays of no and of 64 rows in turn", SELECTED, lambda size: filled(size, short_message() + streams.array_message(array("q", [0] * 64)))),
     ("headers of 65,536 names, one text", SELECTED, lambda size: filled(size, message(shared_names(MOST_NAMES)))),
     ("a header of millions of names", UNBUILT, lambda size: filled(size, message(shared_names(size // 4 - 200)))),
     ("65,536 names, one text of megabytes", UNBUILT, long_name),
