@@ -253,7 +253,7 @@ impl Sink for VecSink {
         ensures count { IfOk result (λ count. count ≡ allowed self.old.sizes self.old.calls (length piece.now)) }
         ensures state { self.new ≡ after_write self.old result piece.now }
         ensures room { length self.old.written + allowed self.old.sizes self.old.calls (length piece.now)
-            ≤ self.old.room → self.new.refused ≡ self.old.refused }
+            ≤ self.old.room → is_err result ≡ contains self.old.failing self.old.calls }
 
         // What every sink promises.
         ensures bound { IfOk result (λ count. count ≤ length piece.now) }

@@ -1,5 +1,5 @@
 use crate::plain_reader::expectation_of;
-use crate::tests::{QUIET, TYPE, outcome_of, patched, stream};
+use crate::tests::{STEADY, TYPE, outcome_of, patched, stream};
 use std::alloc::{AllocError, Global};
 use std::test::Fail;
 
@@ -49,7 +49,7 @@ const UNUSUAL: [u8; 207] = [
 
 // Whether the program does with a stream what the plain reader says: the status, the output and the note.
 fn alike(alloc: Global, input: &[u8]) -> Result<bool, AllocError> {
-    let got = outcome_of(alloc, &["select", ".", "ge", "i64:2"], input, &QUIET)?;
+    let got = outcome_of(alloc, &["select", ".", "ge", "i64:2"], input, &STEADY)?;
     let want = expectation_of(alloc, input)?;
     Ok(
         got.status == want.status

@@ -52,7 +52,7 @@ pub(crate) struct Outside {
     write_failing: &'static [u64],
 }
 
-pub(crate) const QUIET: Outside = Outside {
+pub(crate) const STEADY: Outside = Outside {
     read_sizes: &[],
     read_failing: &[],
     write_sizes: &[],
@@ -178,7 +178,7 @@ fn words_that_ask_for_nothing_are_refused_unread(rt: HostRuntime) -> Result<(), 
         (&["select", ".", "ge", "i32:2"], 2),
     ];
     for (words, status) in table {
-        let got = outcome_of(rt.alloc(), words, &TYPE, &QUIET)?;
+        let got = outcome_of(rt.alloc(), words, &TYPE, &STEADY)?;
         assert_eq!(rt; got.status, status, "at {words:?}");
         if status == 2 {
             assert_eq!(rt; got.reads, 0);
@@ -211,7 +211,7 @@ fn rows_are_kept_by_each_operator(rt: HostRuntime) -> Result<(), Fail> {
             rt.alloc(),
             &["select", ".", operator, literal],
             &input,
-            &QUIET,
+            &STEADY,
         )?;
         let want = stream(rt.alloc(), kept)?;
         assert_eq!(rt; got.status, 0, "at {operator} {literal}");
@@ -228,13 +228,13 @@ fn rows_are_kept_by_each_operator(rt: HostRuntime) -> Result<(), Fail> {
 fn counts_and_notes_tell_what_was_done(rt: HostRuntime) -> Result<(), Fail> {
     let one = Outside {
         read_sizes: &[1],
-        ..QUIET
+        ..STEADY
     };
     let words = ["select", ".", "ge", "i64:2"];
     let input = stream(rt.alloc(), &[&[1, 2, 3]])?;
     let kept = stream(rt.alloc(), &[&[2, 3]])?;
     assert_eq!(rt; (input.len(), kept.len()), (364, 356));
-    for outside in [&QUIET, &one] {
+    for outside in [&STEADY, &one] {
         let got = outcome_of(rt.alloc(), &words, &input, outside)?;
         assert_eq!(rt; got.status, 0);
         assert_eq!(rt; got.counts, (1, 3, 2));
@@ -258,7 +258,7 @@ fn faults_of_the_outside_have_their_status(rt: HostRuntime) -> Result<(), Fail> 
     let words = ["select", ".", "ge", "i64:2"];
     let read = Outside {
         read_failing: &[0],
-        ..QUIET
+        ..STEADY
     };
     let got = outcome_of(rt.alloc(), &words, &TYPE, &read)?;
     assert_eq!(rt; (got.status, got.output.len()), (7, 0));
@@ -266,7 +266,7 @@ fn faults_of_the_outside_have_their_status(rt: HostRuntime) -> Result<(), Fail> 
     let write = Outside {
         write_sizes: &[5],
         write_failing: &[1],
-        ..QUIET
+        ..STEADY
     };
     let got = outcome_of(rt.alloc(), &words, &TYPE, &write)?;
     assert_eq!(rt; (got.status, got.output.len()), (8, 5));
@@ -274,7 +274,7 @@ fn faults_of_the_outside_have_their_status(rt: HostRuntime) -> Result<(), Fail> 
     // The call behind the one write is the flush.
     let flush = Outside {
         write_failing: &[1],
-        ..QUIET
+        ..STEADY
     };
     let got = outcome_of(rt.alloc(), &words, &TYPE, &flush)?;
     assert_eq!(rt; (got.status, got.output.len()), (8, TYPE.len()));
@@ -301,7 +301,7 @@ fn what_has_not_the_form_is_refused(rt: HostRuntime) -> Result<(), Fail> {
     ];
     for (case, at, piece) in table {
         let input = patched(alloc, &whole, at, piece)?;
-        let got = outcome_of(alloc, &words, &input, &QUIET)?;
+        let got = outcome_of(alloc, &words, &input, &STEADY)?;
         assert_eq!(rt; got.status, 10, "at {case}");
         assert_eq!(rt; got.output.len(), 0, "at {case}");
         assert_eq!(rt;
@@ -311,7 +311,7 @@ fn what_has_not_the_form_is_refused(rt: HostRuntime) -> Result<(), Fail> {
         );
     }
     for end in 0..whole.len() {
-        let got = outcome_of(alloc, &words, &whole[..end], &QUIET)?;
+        let got = outcome_of(alloc, &words, &whole[..end], &STEADY)?;
         let want = if end == 116 || end == 116 + 240 {
             0
         } else {
@@ -324,8 +324,8 @@ fn what_has_not_the_form_is_refused(rt: HostRuntime) -> Result<(), Fail> {
 
 // Whether what a run wrote is given back by a run with the same words, which keeps each row that it reads.
 fn stays(alloc: Global, words: &[&str], input: &[u8]) -> Result<bool, AllocError> {
-    let once = outcome_of(alloc, words, input, &QUIET)?;
-    let again = outcome_of(alloc, words, &once.output, &QUIET)?;
+    let once = outcome_of(alloc, words, input, &STEADY)?;
+    let again = outcome_of(alloc, words, &once.output, &STEADY)?;
     let (arrays, _, kept) = once.counts;
     Ok(
         once.status == 0
