@@ -20,7 +20,8 @@ pub trait WholeNumber: Copy + Debug + Display + ToBytes + TryFromBytes {
     ghost of_number: { ℤ → Self };
 
     fn to_i128(self) -> i128
-        ensures { result ≡ number self };
+        ensures value { result ≡ number self }
+        ensures range { IsTrue (fits format result) };
 
     /// The value that is this number, where the type has it.
     fn from_i128(value: i128) -> Option<Self>
