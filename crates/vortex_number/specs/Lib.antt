@@ -2,3 +2,4 @@ pub mod Format
 pub mod FormatLaws
 pub mod PType
 pub mod ValueErrorNumber
+pub mod ValueErrorText

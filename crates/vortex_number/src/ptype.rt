@@ -1,11 +1,16 @@
 //! The kinds of whole numbers that a column can hold.
 ghost use Rattle.std.specs.Prelude.{◌≡◌, ◌*◌, ◌≤◌, true, false, not, Some, MatchOption};
+ghost use Rattle.std.specs.Ordering.{on, nat_cmp, as_partial_cmp};
+ghost use Rattle.std.specs.Cmp.{partial_order_from_own_ties};
+ghost use Rattle.std.specs.Cmp.Rules.{comparing};
+ghost use Rattle.std.proofs.Common.{rules};
 ghost use Rattle.vortex_number.specs.PType.{ptype_number, is_signed, byte_width_of, greatest, ptype_text};
 
+use std::cmp::Ordering;
 use std::fmt;
 
 /// A kind of whole numbers: with a sign or without, in 8, 16, 32 or 64 bits.
-#[derive(Clone, Copy, Debug, PartialEq, PartialOrd, Eq, Hash)]
+#[derive(Clone, Copy, Debug, PartialEq, Eq, Hash)]
 #[repr(u8)]
 pub enum PType {
     U8 = 0,
@@ -40,16 +45,7 @@ impl PType {
     pub fn number(self) -> u8
         ensures { result ≡ ptype_number self }
     {
-        match self {
-            PType::U8 => 0,
-            PType::U16 => 1,
-            PType::U32 => 2,
-            PType::U64 => 3,
-            PType::I8 => 4,
-            PType::I16 => 5,
-            PType::I32 => 6,
-            PType::I64 => 7,
-        }
+        self as u8
     }
 
     pub fn is_unsigned_int(self) -> bool
@@ -135,6 +131,17 @@ impl PType {
             PType::U32 | PType::I32 => PType::U32,
             PType::U64 | PType::I64 => PType::U64,
         }
+    }
+}
+
+impl PartialOrd for PType {
+    ghost partial_cmp = { as_partial_cmp (on ptype_number nat_cmp) };
+
+    ghost laws = { partial_order_from_own_ties (Prim.search (comparing, rules)) (Prim.search (comparing, rules)) };
+
+    /// The order of the numbers.
+    fn partial_cmp(&self, other: &PType) -> Option<Ordering> {
+        self.number().partial_cmp(&other.number())
     }
 }
 

@@ -1,16 +1,21 @@
 //! Decimals as the whole numbers that are stored for them.
 ghost use Rattle.std.specs.Prelude.{◌≡◌, ◌≤◌, ◌==◌, if◌then◌else◌, Some, None, refl, MatchOption};
+ghost use Rattle.std.specs.Ordering.{on, nat_cmp, as_partial_cmp};
+ghost use Rattle.std.specs.Cmp.{partial_order_from_own_ties};
+ghost use Rattle.std.specs.Cmp.Rules.{comparing};
+ghost use Rattle.std.proofs.Common.{rules};
 ghost use Rattle.vortex_number.specs.Format.{fits};
 ghost use Rattle.vortex_value.specs.DecimalValue.{width_number, width_of, decimal_number, decimal_format};
 ghost use Rattle.vortex_value.specs.declared.decimal.DecimalValueType.{DecimalValueType};
 ghost use Rattle.vortex_value.specs.declared.decimal.DecimalValueType.TheVariants as width;
 
 use crate::WholeNumber;
+use std::cmp::Ordering;
 
 mod impls;
 
 /// The width in which the number of a decimal is stored.
-#[derive(Clone, Copy, Debug, PartialEq, Eq, PartialOrd, Ord)]
+#[derive(Clone, Copy, Debug, PartialEq, Eq)]
 #[repr(u8)]
 pub enum DecimalValueType {
     I8 = 0,
@@ -39,13 +44,32 @@ impl DecimalValueType {
     pub fn number(self) -> u8
         ensures { result ≡ width_number self }
     {
-        match self {
-            DecimalValueType::I8 => 0,
-            DecimalValueType::I16 => 1,
-            DecimalValueType::I32 => 2,
-            DecimalValueType::I64 => 3,
-            DecimalValueType::I128 => 4,
-        }
+        self as u8
+    }
+}
+
+impl PartialOrd for DecimalValueType {
+    ghost partial_cmp = { as_partial_cmp (on width_number nat_cmp) };
+
+    ghost laws = { partial_order_from_own_ties (Prim.search (comparing, rules)) (Prim.search (comparing, rules)) };
+
+    fn partial_cmp(&self, other: &DecimalValueType) -> Option<Ordering> {
+        Some(self.cmp(other))
+    }
+}
+
+impl Ord for DecimalValueType {
+    ghost cmp = { on width_number nat_cmp };
+
+    ghost total = { Prim.search (comparing, rules) };
+
+    ghost matches_partial_cmp = { Prim.search (comparing, rules) };
+
+    ghost matches_eq = { Prim.search (comparing, rules) };
+
+    /// The narrower width is the lesser one.
+    fn cmp(&self, other: &DecimalValueType) -> Ordering {
+        self.number().cmp(&other.number())
     }
 }
 
