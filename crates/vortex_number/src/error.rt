@@ -31,6 +31,8 @@ impl ValueError {
 impl fmt::Display for ValueError {
     ghost output = { λ e. Some (error_text e) };
 
+    ghost styled_output = { λ e _. Some (error_text e) };
+
     fn fmt<W: fmt::Write>(&self, f: &mut fmt::Formatter<W>) -> fmt::Result {
         f.write_str(match self {
             ValueError::OutOfRange => "the number is out of range",

@@ -148,6 +148,8 @@ impl PartialOrd for PType {
 impl fmt::Display for PType {
     ghost output = { λ kind. Some (ptype_text kind) };
 
+    ghost styled_output = { λ kind _. Some (ptype_text kind) };
+
     fn fmt<W: fmt::Write>(&self, f: &mut fmt::Formatter<W>) -> fmt::Result {
         f.write_str(match self {
             PType::U8 => "u8",

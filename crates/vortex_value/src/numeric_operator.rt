@@ -34,6 +34,8 @@ impl NumericOperator {
 impl fmt::Display for NumericOperator {
     ghost output = { λ operator. Some (operator_text operator) };
 
+    ghost styled_output = { λ operator _. Some (operator_text operator) };
+
     fn fmt<W: fmt::Write>(&self, f: &mut fmt::Formatter<W>) -> fmt::Result {
         f.write_str(match self {
             NumericOperator::Add => "Add",
