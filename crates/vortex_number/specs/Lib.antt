@@ -2,4 +2,3 @@ pub mod Format
 pub mod FormatLaws
 pub mod PType
 pub mod ValueErrorNumber
-pub mod ValueErrorText

@@ -1,17 +1,18 @@
 //! What a call on values can refuse.
-ghost use Rattle.std.specs.Prelude.{◌≡◌, Some};
+ghost use Rattle.std.specs.Prelude.{◌≡◌};
 ghost use Rattle.vortex_number.specs.declared.error.ValueError.TheVariants.{OutOfMemory};
 ghost use Rattle.vortex_number.specs.ValueErrorNumber.{error_number};
-ghost use Rattle.vortex_number.specs.ValueErrorText.{error_text};
 
 use std::alloc::{AllocError, AllocFailed};
-use std::error::Error;
-use std::fmt;
+use thiserror::Error;
 
-#[derive(Clone, Copy, Debug, PartialEq, Eq)]
+#[derive(Clone, Copy, Debug, PartialEq, Eq, Error)]
 pub enum ValueError {
+    #[error("the number is out of range")]
     OutOfRange,
+    #[error("the length of the bytes is not the width of the number")]
     BadLength,
+    #[error("out of memory")]
     OutOfMemory,
 }
 
@@ -27,22 +28,6 @@ impl ValueError {
         }
     }
 }
-
-impl fmt::Display for ValueError {
-    ghost output = { λ e. Some (error_text e) };
-
-    ghost styled_output = { λ e _. Some (error_text e) };
-
-    fn fmt<W: fmt::Write>(&self, f: &mut fmt::Formatter<W>) -> fmt::Result {
-        f.write_str(match self {
-            ValueError::OutOfRange => "the number is out of range",
-            ValueError::BadLength => "the length of the bytes is not the width of the number",
-            ValueError::OutOfMemory => "out of memory",
-        })
-    }
-}
-
-impl Error for ValueError {}
 
 impl From<AllocError> for ValueError {
     ghost from_gives = { λ _ e. e ≡ OutOfMemory };
