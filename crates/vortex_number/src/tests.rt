@@ -117,9 +117,20 @@ fn kinds_have_texts_and_an_order(rt: HostRuntime) -> Result<(), Fail> {
 }
 
 #[test]
-fn errors(rt: HostRuntime) {
+fn errors(rt: HostRuntime) -> Result<(), Fail> {
     assert_eq!(rt; ValueError::OutOfRange.number(), 1);
     assert_eq!(rt; ValueError::BadLength.number(), 2);
     assert_eq!(rt; error_from(AllocError).number(), 3);
     assert_eq!(rt; error_from(AllocFailed { value: 7u8 }).number(), 3);
+    for (error, text) in [
+        (ValueError::OutOfRange, "the number is out of range"),
+        (
+            ValueError::BadLength,
+            "the length of the bytes is not the width of the number",
+        ),
+        (ValueError::OutOfMemory, "out of memory"),
+    ] {
+        assert!(rt; shows(rt.alloc(), &error, text)?, "{text}");
+    }
+    Ok(())
 }
