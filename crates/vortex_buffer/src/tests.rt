@@ -109,8 +109,15 @@ fn comparisons_look_at_the_bytes(rt: HostRuntime) -> Result<(), Fail> {
 }
 
 #[test]
-fn errors(rt: HostRuntime) {
+fn errors(rt: HostRuntime) -> Result<(), Fail> {
     assert_eq!(rt; BufferError::NotUtf8.number(), 1);
     assert_eq!(rt; error_from(AllocError).number(), 2);
     assert_eq!(rt; error_from(AllocFailed { value: 7u8 }).number(), 2);
+    for (error, text) in [
+        (BufferError::NotUtf8, "the bytes are not UTF-8"),
+        (BufferError::OutOfMemory, "out of memory"),
+    ] {
+        assert_eq!(rt; format!(in rt.alloc(); "{error}")?.as_str(), text);
+    }
+    Ok(())
 }

@@ -2,6 +2,7 @@
 ghost use Rattle.std.specs.Prelude.{nat_eq, Some};
 ghost use Rattle.std.specs.Ordering.{nat_cmp, on};
 ghost use Rattle.std.specs.Hash as fed;
+ghost use Rattle.std.specs.Fmt.{debug_str};
 ghost use Rattle.std.specs.Cmp.Lexicographic.{pointwise, slice_cmp};
 ghost use Rattle.std.specs.Cmp.Rules.{comparing, hashing};
 ghost use Rattle.std.proofs.Common.{rules};
@@ -62,6 +63,8 @@ impl Hash for BufferString {
 }
 
 impl fmt::Debug for BufferString {
+    ghost debug_output = { λ s. debug_str s.bytes };
+
     fn fmt<W: fmt::Write>(&self, f: &mut fmt::Formatter<W>) -> fmt::Result {
         self.as_str().fmt(f)
     }
