@@ -7,7 +7,6 @@ ghost use Rattle.std.specs.Cmp.Rules.{hashing};
 ghost use Rattle.std.specs.Cmp.Lexicographic.{pointwise, slice_cmp, nat_list_eq_equiv, nat_list_cmp_total, texts_po, texts_ties};
 ghost use Rattle.std.specs.Ordering.{nat_cmp};
 ghost use Rattle.std.specs.Hash as fed;
-ghost use Rattle.std.specs.Fmt.{decimal, debug_list};
 
 use crate::error::DTypeError;
 use std::alloc::Global;
@@ -109,8 +108,6 @@ impl Hash for ExtID {
 impl fmt::Display for ExtID {
     ghost output = { λ n. Some n };
 
-    ghost styled_output = { λ n _. Some n };
-
     fn fmt<W: fmt::Write>(&self, f: &mut fmt::Formatter<W>) -> fmt::Result {
         f.write_str(self.as_str())
     }
@@ -191,8 +188,6 @@ impl Hash for ExtMetadata {
 }
 
 impl fmt::Debug for ExtMetadata {
-    ghost debug_output = { λ m. debug_list (λ n. Some (decimal n)) m };
-
     fn fmt<W: fmt::Write>(&self, f: &mut fmt::Formatter<W>) -> fmt::Result {
         fmt::Debug::fmt(self.as_slice(), f)
     }

@@ -139,8 +139,6 @@ impl Hash for FieldName {
 impl fmt::Display for FieldName {
     ghost output = { λ n. Some n };
 
-    ghost styled_output = { λ n _. Some n };
-
     fn fmt<W: fmt::Write>(&self, f: &mut fmt::Formatter<W>) -> fmt::Result {
         f.write_str(self.as_str())
     }
