@@ -1,10 +1,9 @@
-//! `vortex select . OP i64:N` reads a stream of a column on standard input, writes the stream of the rows that are kept on
-//! standard output, and leaves one line on standard error.
+//! `vortex select . OP i64:N` reads a stream of a column on standard input, writes the stream of
+//! the rows that are kept on standard output, and leaves one line on standard error.
 #![tactic(auto)]
 
 ghost use Rattle.std.specs.Prelude.{◌≡◌, ◌<◌};
 
-use std::alloc::Global;
 use std::marker::Brand;
 use std::process::ExitCode;
 use std::rt::Env;
@@ -14,10 +13,10 @@ use vortex_ipc::{ReadSource, WriteSink};
 use vortex_select::run;
 use vortex_steps::Steps;
 
-/// The words of the command line cannot be had, for another reason than want of memory.
+/// The words of the command line cannot be had, for another reason than lack of memory.
 const NO_WORDS: u8 = 1;
 
-/// Want of memory, as the run itself answers it.
+/// Lack of memory, as the run itself answers it.
 const NO_MEMORY: u8 = 9;
 
 fn words<R: Env + AllocGlobal>(rt: &R) -> io::Result<Vec<String>> {

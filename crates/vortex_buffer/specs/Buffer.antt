@@ -1,4 +1,4 @@
--- What a byte buffer and a text buffer are seen as.
+-- A buffer as its bytes and the exponent of its alignment: `Buffer`, `unaligned`, `cut`.
 use Rattle.std.specs.Prelude.{ℕ, List, slice_range}
 
 -- bytes, and the exponent of the power of two that they are labelled with

@@ -1,11 +1,12 @@
-//! What a call on buffers can refuse.
+//! Why a buffer could not be made.
 ghost use Rattle.std.specs.Prelude.{◌≡◌};
 ghost use Rattle.vortex_buffer.specs.declared.error.BufferError.TheVariants.{OutOfMemory};
-ghost use Rattle.vortex_buffer.specs.BufferErrorNumber.{number_of};
+ghost use Rattle.vortex_buffer.specs.ErrorNumber.{error_number};
 
 use std::alloc::{AllocError, AllocFailed};
 use thiserror::Error;
 
+/// Why a buffer could not be made.
 #[derive(Clone, Copy, Debug, PartialEq, Eq, Error)]
 pub enum BufferError {
     #[error("the bytes are not UTF-8")]
@@ -15,9 +16,9 @@ pub enum BufferError {
 }
 
 impl BufferError {
-    /// The number of the refusal, from 1 in the order of the variants.
+    /// The number of the error, from 1 in the order of the variants.
     pub fn number(&self) -> u8
-        ensures { result ≡ number_of self.now }
+        ensures { result ≡ error_number self.now }
     {
         match self {
             BufferError::NotUtf8 => 1,

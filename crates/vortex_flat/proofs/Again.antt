@@ -10,14 +10,15 @@ use Rattle.std.proofs.lemmas.Int.{ints, to_z-of_z, to_z_pos}
 use Rattle.std.proofs.lemmas.Bool.{leb-true, le-leb, eq-eqb}
 use Rattle.std.specs.Cmp.Derive.{both_true}
 use Rattle.vortex_flat.specs.Numbers.{number, natural, signed_8}
-use Rattle.vortex_flat.specs.Table.{TableShape, fits, table_at, field_at, ◌>>=◌}
+use Rattle.vortex_prelude.specs.Chain.{◌>>=◌}
+use Rattle.vortex_flat.specs.Table.{TableShape, fits, table_at, field_at}
 use Rattle.vortex_flat.specs.Targets.{VectorShape, element, if_present, root_place, follow, table_place, number_field, signed_field, target_field, vector_at, bytes_at, text_at}
 use Rattle.vortex_flat.specs.Tree.{Wide, one, two, four, eight, wide, Tree, table, offsets, bytes, text, numbers, records, Slots, no_slots, absent, number_slot, signed_slot, target_slot, Trees, no_trees, tree, slot_count, tree_count}
 use Rattle.vortex_flat.specs.Layout.{low_first, gap, round_up, padded, count_of, vtable_size, Places, first_eight, first_places, inline_size, after, entries, head, own_size, size_of, targets_size, trees_size, slots_of, fours_of, offsets_of, vtable_of, inline_of, numbers_of, own_bytes, bytes_of, targets_bytes, trees_bytes, tables_fit, targets_fit, trees_fit, whole_of, layout_of}
 use Rattle.vortex_flat.specs.Reads.{ReadsNumbers, ReadsVector, Reads, ReadsSlots, ReadsTrees, InRange, SlotsInRange, TreesInRange, ReadsAgain}
 use Rattle.vortex_flat.proofs.TableLemmas.{guard_some, and_split, field_past, field_zero, field_here, table_here}
 use Rattle.vortex_flat.proofs.TargetsLemmas.{vector_here, text_here}
-use Rattle.vortex_flat.proofs.At.{At, At-front, At-behind, At-same, At-within, At-piece, number_of, number_at_place}
+use Rattle.vortex_flat.proofs.At.{At, At-prefix, At-behind, At-same, At-within, At-piece, number_of, number_at_place}
 use Rattle.vortex_flat.proofs.Lengths.{length-low, length-padded, length-slots_of, length-fours_of, length-offsets_of, length-numbers_of, first_eight-least, length-vtable_of, length-inline_of, length-own_bytes, length-bytes_of}
 
 -- ---- one field
@@ -26,11 +27,11 @@ use Rattle.vortex_flat.proofs.Lengths.{length-low, length-padded, length-slots_o
 found_field : (b : List ℕ) (t : TableShape) (k w e n : ℕ) (rest : List ℕ) → table_at b t.place ≡ Some t → t.vtable_size ≡ 4 + 2 * (k + suc n) → At b (t.vtable + (4 + 2 * k)) (low_first 2 e ++ rest)
     → 4 ≤ e → e + w ≤ t.inline_size → t.inline_size ≤ 65535 → field_at b t.place k w ≡ Some (Some (t.place + e))
 found_field b t k w e n rest stands size a least within small =
-    field_here b t t.place k w e stands (omega arith) (number_at_place b (t.vtable + (4 + 2 * k)) two e (At-front b _ (low_first 2 e) rest a) (omega arith)) (omega arith) least within
+    field_here b t t.place k w e stands (omega arith) (number_at_place b (t.vtable + (4 + 2 * k)) two e (At-prefix b _ (low_first 2 e) rest a) (omega arith)) (omega arith) least within
 
 absent_field : (b : List ℕ) (t : TableShape) (k w n : ℕ) (rest : List ℕ) → table_at b t.place ≡ Some t → t.vtable_size ≡ 4 + 2 * (k + suc n) → At b (t.vtable + (4 + 2 * k)) (low_first 2 0 ++ rest) → field_at b t.place k w ≡ Some None
 absent_field b t k w n rest stands size a =
-    field_zero b t t.place k w 0 stands (omega arith) (number_at_place b (t.vtable + (4 + 2 * k)) two 0 (At-front b _ (low_first 2 0) rest a) (omega arith)) refl
+    field_zero b t t.place k w 0 stands (omega arith) (number_at_place b (t.vtable + (4 + 2 * k)) two 0 (At-prefix b _ (low_first 2 0) rest a) (omega arith)) refl
 
 present : {A B : Type 0} (o : Option (Option A)) (f : A → Option B) (i : A) (x : B) → o ≡ Some (Some i) → f i ≡ Some x → if_present o f ≡ Some (Some x)
 present o f i x e g = ap (λ (p : Option (Option _)). if_present p f) e ∙ ap (option_map Some) g
@@ -44,7 +45,7 @@ record Lane (b : List ℕ) (place p w count size : ℕ) (xs : List ℕ) : Type 0
   lies : At b (place + p) xs
 
 lane_here : (b : List ℕ) (place p w count size : ℕ) (xs ys : List ℕ) → Lane b place p w (suc count) size (xs ++ ys) → At b (place + p) xs
-lane_here b place p w count size xs ys l = At-front b (place + p) xs ys l.lies
+lane_here b place p w count size xs ys l = At-prefix b (place + p) xs ys l.lies
 
 lane_within : (b : List ℕ) (place p w count size : ℕ) (xs : List ℕ) → Lane b place p w (suc count) size xs → p + w ≤ size
 lane_within b place p w count size xs l = omega (arith, l.within)
@@ -275,12 +276,12 @@ table_stands b at s a =
     let h : ℕ = round_up (vtable_size s) in
     let whole = a.inline_at in
     let v : List ℕ = low_first 2 (vtable_size s) ++ low_first 2 (inline_size s) in
-    let front = At-front b at v (entries s (first_places s)) a.vtable_at in
+    let prefix = At-prefix b at v (entries s (first_places s)) a.vtable_at in
     table_here b (shape_of_table at s) h (record {
-      back = number_at_place b (at + h) four h (At-front b (at + h) (low_first 4 h) _ whole) (omega (arith, a.vtable_small));
+      back = number_at_place b (at + h) four h (At-prefix b (at + h) (low_first 4 h) _ whole) (omega (arith, a.vtable_small));
       vtable = back_to at h (omega (arith, a.vtable_small));
-      vtable_size = number_at_place b at two (vtable_size s) (At-front b at (low_first 2 (vtable_size s)) (low_first 2 (inline_size s)) front) (omega (arith, a.vtable_small));
-      inline_size = number_at_place b (at + 2) two (inline_size s) (At-behind b at (at + 2) (low_first 2 (vtable_size s)) (low_first 2 (inline_size s)) front refl) (omega (arith, a.inline_small));
+      vtable_size = number_at_place b at two (vtable_size s) (At-prefix b at (low_first 2 (vtable_size s)) (low_first 2 (inline_size s)) prefix) (omega (arith, a.vtable_small));
+      inline_size = number_at_place b (at + 2) two (inline_size s) (At-behind b at (at + 2) (low_first 2 (vtable_size s)) (low_first 2 (inline_size s)) prefix refl) (omega (arith, a.inline_small));
     }) (sym (laid_fits b at s (omega (arith, At-within b at (vtable_of s) a.vtable_at, length-vtable_of s)) (inline_least s) (omega (arith, At-within b (at + h) (inline_of s) whole, length-inline_of s))))
 
 first_walk : (b : List ℕ) (at : ℕ) (s : Slots) → Parts b at s → size_of (table s) < 2 ^ 32
@@ -302,9 +303,9 @@ first_walk b at s a short =
     let to_fs = length-append (top ++ es) fs in
     let to_ts = length-append (top ++ es ++ fs) ts in
     let whole = a.inline_at in
-    let upto_ts = At-front b i (top ++ es ++ fs ++ ts) os whole in
-    let upto_fs = At-front b i (top ++ es ++ fs) ts upto_ts in
-    let upto_es = At-front b i (top ++ es) fs upto_fs in
+    let upto_ts = At-prefix b i (top ++ es ++ fs ++ ts) os whole in
+    let upto_fs = At-prefix b i (top ++ es ++ fs) ts upto_ts in
+    let upto_es = At-prefix b i (top ++ es) fs upto_fs in
     record {
       stands = table_stands b at s a;
       place = refl;
@@ -322,10 +323,10 @@ first_walk b at s a short =
 
 parts_of : (b : List ℕ) (at : ℕ) (s : Slots) → vtable_size s ≤ 65535 → inline_size s ≤ 65535 → At b at (bytes_of (table s)) → Parts b at s
 parts_of b at s v i a =
-    let own = At-front b at (own_bytes (table s)) (targets_bytes s) a in
+    let own = At-prefix b at (own_bytes (table s)) (targets_bytes s) a in
     record {
-      vtable_at = At-front b at (vtable_of s) (replicate (gap (length (vtable_of s))) 0) (At-front b at (padded (vtable_of s)) (padded (inline_of s)) own);
-      inline_at = At-front b _ (inline_of s) (replicate (gap (length (inline_of s))) 0)
+      vtable_at = At-prefix b at (vtable_of s) (replicate (gap (length (vtable_of s))) 0) (At-prefix b at (padded (vtable_of s)) (padded (inline_of s)) own);
+      inline_at = At-prefix b _ (inline_of s) (replicate (gap (length (inline_of s))) 0)
           (At-behind b at (at + round_up (vtable_size s)) (padded (vtable_of s)) (padded (inline_of s)) own (ap (λ (n : ℕ). at + n) (sym (length-padded (vtable_of s) ∙ ap round_up (length-vtable_of s)))));
       targets_at = At-behind b at (at + own_size (table s)) (own_bytes (table s)) (targets_bytes s) a (ap (λ (n : ℕ). at + n) (sym (length-own_bytes (table s))));
       vtable_small = v;
@@ -339,12 +340,12 @@ shape_of_vector at w n = record { first = at + 4; width = w; count = n }
 
 vector_stands : (b : List ℕ) (at w n : ℕ) (rest : List ℕ) → At b at (low_first 4 n ++ rest) → n < 2 ^ 32 → w * n ≤ length rest → vector_at b at w ≡ Some (shape_of_vector at w n)
 vector_stands b at w n rest a small long =
-    vector_here b at w n (number_at_place b at four n (At-front b at (low_first 4 n) rest a) small) (omega (arith, At-within b at (low_first 4 n ++ rest) a, length-append (low_first 4 n) rest))
+    vector_here b at w n (number_at_place b at four n (At-prefix b at (low_first 4 n) rest a) small) (omega (arith, At-within b at (low_first 4 n ++ rest) a, length-append (low_first 4 n) rest))
 
 numbers_read : (b : List ℕ) (v : VectorShape) (w : Wide) (i : ℕ) (ns : List ℕ) → v.width ≡ wide w → At b (element v i) (numbers_of (wide w) ns) → AllByRecursion (λ n. n < 2 ^ (8 * wide w)) ns → ReadsNumbers b v i ns
 numbers_read b v w i [] e a range = tt
 numbers_read b v w i (n ∷ ns) e a range =
-    let here = number_at_place b (element v i) w n (At-front b (element v i) (low_first (wide w) n) (numbers_of (wide w) ns) a) range.0 in
+    let here = number_at_place b (element v i) w n (At-prefix b (element v i) (low_first (wide w) n) (numbers_of (wide w) ns) a) range.0 in
     let next : element v (suc i) ≡ element v i + length (low_first (wide w) n) = omega (arith, length-low (wide w) n, ap (λ (x : ℕ). x * suc i) e, ap (λ (x : ℕ). x * i) e) in
     (ap (number b (element v i)) e ∙ here, numbers_read b v w (suc i) ns e (At-behind b (element v i) (element v (suc i)) (low_first (wide w) n) (numbers_of (wide w) ns) a next) range.1)
 
@@ -357,7 +358,7 @@ vector_read b at w ns a small range =
 bytes_read : (b : List ℕ) (at : ℕ) (xs rest : List ℕ) → At b at (low_first 4 (length xs) ++ (xs ++ rest)) → length xs < 2 ^ 32 → bytes_at b at ≡ Some xs
 bytes_read b at xs rest a small =
     let stands = vector_stands b at 1 (length xs) (xs ++ rest) a small (omega (arith, length-append xs rest)) in
-    let here = At-front b (at + 4) xs rest (At-behind b at (at + 4) (low_first 4 (length xs)) (xs ++ rest) a refl) in
+    let here = At-prefix b (at + 4) xs rest (At-behind b at (at + 4) (low_first 4 (length xs)) (xs ++ rest) a refl) in
     ap (option_map (λ (v : VectorShape). take v.count (drop v.first b))) stands ∙ ap Some (At-piece b (at + 4) xs here)
 
 text_read : (b : List ℕ) (at : ℕ) (xs : List ℕ) → IsUtf8 xs → size_of (text xs) < 2 ^ 32 → At b at (bytes_of (text xs)) → text_at b at ≡ Some xs
@@ -396,13 +397,13 @@ row_next b v i t ts q at r =
 row_follows : (b : List ℕ) (v : VectorShape) (i : ℕ) (t : Tree) (ts : Trees) (q at : ℕ) → Row b v i (tree t ts) q at → follow b (element v i) ≡ Some (at + q + head t)
 row_follows b v i t ts q at r =
     let there : element v i ≡ at + (4 + 4 * i) = omega (arith, r.first, ap (λ (w : ℕ). w * i) r.width) in
-    let here = At-front b (at + (4 + 4 * i)) (low_first 4 (q + head t - (4 + 4 * i))) (offsets_of ts (4 + 4 * i + 4) (q + size_of t)) r.offsets_at in
+    let here = At-prefix b (at + (4 + 4 * i)) (low_first 4 (q + head t - (4 + 4 * i))) (offsets_of ts (4 + 4 * i + 4) (q + size_of t)) r.offsets_at in
     ap (follow b) there ∙ followed b (at + (4 + 4 * i)) (4 + 4 * i) (q + head t) (at + q + head t) here (omega (arith, r.behind)) (omega (arith, r.short, head_within t)) (omega (arith, r.behind))
 
 first_row : (b : List ℕ) (at : ℕ) (ts : Trees) → At b at (bytes_of (offsets ts)) → size_of (offsets ts) < 2 ^ 32 → Row b (shape_of_vector at 4 (tree_count ts)) 0 ts (own_size (offsets ts)) at
 first_row b at ts a short =
-    let own = At-front b at (own_bytes (offsets ts)) (trees_bytes ts) a in
-    let laid = At-front b at (low_first 4 (tree_count ts) ++ offsets_of ts 4 (own_size (offsets ts))) (replicate (gap (length (low_first 4 (tree_count ts) ++ offsets_of ts 4 (own_size (offsets ts))))) 0) own in
+    let own = At-prefix b at (own_bytes (offsets ts)) (trees_bytes ts) a in
+    let laid = At-prefix b at (low_first 4 (tree_count ts) ++ offsets_of ts 4 (own_size (offsets ts))) (replicate (gap (length (low_first 4 (tree_count ts) ++ offsets_of ts 4 (own_size (offsets ts))))) 0) own in
     record {
       width = refl;
       first = refl;
@@ -414,8 +415,8 @@ first_row b at ts a short =
 
 offsets_stand : (b : List ℕ) (at : ℕ) (ts : Trees) → At b at (bytes_of (offsets ts)) → size_of (offsets ts) < 2 ^ 32 → vector_at b at 4 ≡ Some (shape_of_vector at 4 (tree_count ts))
 offsets_stand b at ts a short =
-    let own = At-front b at (own_bytes (offsets ts)) (trees_bytes ts) a in
-    let laid = At-front b at (low_first 4 (tree_count ts) ++ offsets_of ts 4 (own_size (offsets ts))) (replicate (gap (length (low_first 4 (tree_count ts) ++ offsets_of ts 4 (own_size (offsets ts))))) 0) own in
+    let own = At-prefix b at (own_bytes (offsets ts)) (trees_bytes ts) a in
+    let laid = At-prefix b at (low_first 4 (tree_count ts) ++ offsets_of ts 4 (own_size (offsets ts))) (replicate (gap (length (low_first 4 (tree_count ts) ++ offsets_of ts 4 (own_size (offsets ts))))) 0) own in
     vector_stands b at 4 (tree_count ts) (offsets_of ts 4 (own_size (offsets ts))) laid (omega (arith, short)) (omega (arith, length-offsets_of ts 4 (own_size (offsets ts))))
 
 mutual
@@ -432,9 +433,9 @@ mutual
   reads_tree b at (text xs) range fit short a =
       at_start b at (text xs) refl (text_read b at xs range short a)
   reads_tree b at (numbers xs) range fit short a =
-      at_start b at (numbers xs) refl (vector_read b at four xs (At-front b at (low_first 4 (length xs) ++ numbers_of 4 xs) (replicate (gap (length (low_first 4 (length xs) ++ numbers_of 4 xs))) 0) a) (omega (arith, short)) range)
+      at_start b at (numbers xs) refl (vector_read b at four xs (At-prefix b at (low_first 4 (length xs) ++ numbers_of 4 xs) (replicate (gap (length (low_first 4 (length xs) ++ numbers_of 4 xs))) 0) a) (omega (arith, short)) range)
   reads_tree b at (records xs) range fit short a =
-      at_start b at (records xs) refl (vector_read b at eight xs (At-front b at (low_first 4 (length xs) ++ numbers_of 8 xs) (replicate (gap (length (low_first 4 (length xs) ++ numbers_of 8 xs))) 0) a) (omega (arith, short)) range)
+      at_start b at (records xs) refl (vector_read b at eight xs (At-prefix b at (low_first 4 (length xs) ++ numbers_of 8 xs) (replicate (gap (length (low_first 4 (length xs) ++ numbers_of 8 xs))) 0) a) (omega (arith, short)) range)
 
   reads_slots : (b : List ℕ) (t : TableShape) (k : ℕ) (s : Slots) (p : Places) (h q base : ℕ) → SlotsInRange s → targets_fit s ≡ true → Walk b t k s p h q base → ReadsSlots b t.place k s
   reads_slots b t k no_slots p h q base range fit w = λ j n le. field_past b t t.place j n w.stands (omega (arith, w.size, le))
@@ -443,7 +444,7 @@ mutual
   reads_slots b t k (signed_slot z s) p h q base range fit w = (signed_found b t k z s p h q base w range.0, reads_slots b t (suc k) s (after p one) h q base range.1 fit (walk_signed b t k z s p h q base w))
   reads_slots b t k (target_slot u s) p h q base range fit w =
       let fits = and_split (tables_fit u) (targets_fit s) fit in (
-        (base + q + head u, target_found b t k u s p h q base w, reads_tree b (base + q) u range.0 fits.0 (omega (arith, w.short)) (At-front b (base + q) (bytes_of u) (targets_bytes s) w.targets_at)),
+        (base + q + head u, target_found b t k u s p h q base w, reads_tree b (base + q) u range.0 fits.0 (omega (arith, w.short)) (At-prefix b (base + q) (bytes_of u) (targets_bytes s) w.targets_at)),
         reads_slots b t (suc k) s (after p four) h (q + size_of u) base range.1 fits.1 (walk_target b t k u s p h q base w),
       )
 
@@ -451,7 +452,7 @@ mutual
   reads_trees b v i no_trees q at range fit r = tt
   reads_trees b v i (tree t ts) q at range fit r =
       let fits = and_split (tables_fit t) (trees_fit ts) fit in (
-        (at + q + head t, row_follows b v i t ts q at r, reads_tree b (at + q) t range.0 fits.0 (omega (arith, r.short)) (At-front b (at + q) (bytes_of t) (trees_bytes ts) r.targets_at)),
+        (at + q + head t, row_follows b v i t ts q at r, reads_tree b (at + q) t range.0 fits.0 (omega (arith, r.short)) (At-prefix b (at + q) (bytes_of t) (trees_bytes ts) r.targets_at)),
         reads_trees b v (suc i) ts (q + size_of t) at range.1 fits.1 (row_next b v i t ts q at r),
       )
 
@@ -467,8 +468,8 @@ read_again_lem s b range e =
     let fits = and_split (tables_fit t) (nat_le (8 + size_of t) 4_294_967_295) g.0 in
     let short : 8 + size_of t ≤ 4_294_967_295 = leb-true _ _ fits.1 in
     let all : At b 0 (whole_of t) = record { before = []; behind = []; parts = sym g.1 ∙ sym (append-nil (whole_of t)); place = refl } in
-    let front = At-front b 0 (low_first 4 (8 + head t)) (low_first 4 0) (At-front b 0 (low_first 4 (8 + head t) ++ low_first 4 0) (bytes_of t) all) in
-    let root : number b 0 4 ≡ Some (8 + head t) = number_at_place b 0 four (8 + head t) front (omega (arith, short, head_within t)) in
+    let prefix = At-prefix b 0 (low_first 4 (8 + head t)) (low_first 4 0) (At-prefix b 0 (low_first 4 (8 + head t) ++ low_first 4 0) (bytes_of t) all) in
+    let root : number b 0 4 ≡ Some (8 + head t) = number_at_place b 0 four (8 + head t) prefix (omega (arith, short, head_within t)) in
     let tree = At-behind b 0 8 (low_first 4 (8 + head t) ++ low_first 4 0) (bytes_of t) all refl in
     let reads = reads_tree b 8 t range fits.0 (omega (arith, short)) tree in
     (8 + head t, root_found b s (8 + head t) root reads.0, reads)

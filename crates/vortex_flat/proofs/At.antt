@@ -15,8 +15,8 @@ pub record At (b : List ℕ) (i : ℕ) (xs : List ℕ) : Type 0 where
   pub parts : b ≡ before ++ (xs ++ behind)
   pub place : length before ≡ i
 
-pub At-front : (b : List ℕ) (i : ℕ) (xs ys : List ℕ) → At b i (xs ++ ys) → At b i xs
-At-front b i xs ys a = record { before = a.before; behind = ys ++ a.behind; parts = a.parts ∙ ap (λ (t : List ℕ). a.before ++ t) (append_assoc xs ys a.behind); place = a.place }
+pub At-prefix : (b : List ℕ) (i : ℕ) (xs ys : List ℕ) → At b i (xs ++ ys) → At b i xs
+At-prefix b i xs ys a = record { before = a.before; behind = ys ++ a.behind; parts = a.parts ∙ ap (λ (t : List ℕ). a.before ++ t) (append_assoc xs ys a.behind); place = a.place }
 
 pub At-back : (b : List ℕ) (i : ℕ) (xs ys : List ℕ) → At b i (xs ++ ys) → At b (i + length xs) ys
 At-back b i xs ys a = record {

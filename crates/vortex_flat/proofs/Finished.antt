@@ -5,7 +5,7 @@ use Rattle.std.proofs.lemmas.Bool.{le-leb, lt-leb}
 use Rattle.vortex_flat.specs.declared.extent.Extent.{Extent}
 use Rattle.vortex_flat.specs.Tree.{Tree, table, offsets, bytes, text, numbers, records}
 use Rattle.vortex_flat.specs.Layout.{low_first, head, size_of, bytes_of, tables_fit, whole_of, layout_of}
-use Rattle.vortex_flat.specs.Extent.{Measures}
+use Rattle.vortex_flat.specs.inner.Extent.{Measures}
 use Rattle.vortex_flat.specs.Reads.{InRange, ReadsAgain}
 use Rattle.vortex_flat.specs.Finish.{IsTable}
 use Rattle.vortex_flat.proofs.Again.{read_again_lem}

@@ -4,11 +4,11 @@ use Rattle.vortex_flat.specs.declared.item.Item.{Item}
 use Rattle.vortex_flat.specs.declared.item.Slot.{Slot}
 use Rattle.vortex_flat.specs.declared.item.Slot.TheVariants as slots
 use Rattle.vortex_flat.specs.Tree.{Slots, no_slots, Trees, no_trees}
-use Rattle.vortex_flat.specs.TreeCode.{tree_weight, slots_weight, trees_weight}
+use Rattle.vortex_flat.specs.inner.TreeCode.{tree_weight, slots_weight, trees_weight}
 use Rattle.vortex_flat.specs.Item.{slots_from, trees_from, tree_of}
 use Rattle.vortex_flat.specs.Layout.{bytes_of, size_of, tables_fit, targets_bytes, targets_fit, targets_size, trees_bytes, trees_fit, trees_size}
 use Rattle.vortex_flat.specs.Reads.{InRange, SlotsInRange, TreesInRange}
-use Rattle.vortex_flat.specs.SlotBytes.{SlotInRange, target_bytes, target_fits, target_size}
+use Rattle.vortex_flat.specs.inner.SlotBytes.{SlotInRange, target_bytes, target_fits, target_size}
 use Rattle.vortex_flat.proofs.ItemLemmas.{drop_here, drop_all}
 use Rattle.vortex_flat.proofs.PutLemmas.{laid_more, laid_all}
 use Rattle.vortex_flat.proofs.TableLemmas.{and_split}

@@ -2,7 +2,7 @@
 use Rattle.std.proofs.Common.{◌≡◌, ℕ, zero, suc, ◌+◌, ◌*◌, ◌≤◌, ◌<◌, min, Bool, true, false, List, [], ◌∷◌, length, get_or, drop, Option, Some, None, refl, sym, ap, subst, ◌∙◌, arith, add-one}
 use Rattle.std.proofs.lemmas.Bool.{leb-true, lt-leb}
 use Rattle.vortex_flat.proofs.TableLemmas.{and_split}
-use Rattle.vortex_flat.specs.declared.counts.Counts.{Counts}
+use Rattle.vortex_flat.specs.declared.width_counts.WidthCounts.{WidthCounts}
 use Rattle.std.specs.Prelude.{◌&&◌, ◌==◌, nat_le, if◌then◌else◌}
 use Rattle.vortex_flat.specs.declared.extent.Extent.{Extent}
 use Rattle.vortex_flat.specs.declared.item.Item.{Item}
@@ -11,8 +11,8 @@ use Rattle.vortex_flat.specs.declared.item.Slot.TheVariants as slots
 use Rattle.vortex_flat.specs.Tree.{one, two, four, eight, table, offsets, Slots, no_slots, Trees, no_trees, slot_count, tree_count}
 use Rattle.vortex_flat.specs.Item.{slots_from, trees_from, tree_of}
 use Rattle.vortex_flat.specs.Layout.{count_of, inline_size, vtable_size, round_up, head, own_size, size_of, targets_size, trees_size, tables_fit, targets_fit, trees_fit}
-use Rattle.vortex_flat.specs.Extent.{Counted, Measures, MeasuresTargets, MeasuresTrees}
-use Rattle.vortex_flat.specs.SlotBytes.{counts_after, extent_after, inline_of_counts}
+use Rattle.vortex_flat.specs.inner.Extent.{Counted, Measures, MeasuresTargets, MeasuresTrees}
+use Rattle.vortex_flat.specs.inner.SlotBytes.{counts_after, extent_after, inline_of_counts}
 
 -- the element at a place, and those behind it
 pub drop_here : {A : Type 0} (xs : List A) (i : ℕ) (x : A) → i < length xs → x ≡ get_or xs i x → drop i xs ≡ x ∷ drop (i + 1) xs
@@ -25,7 +25,7 @@ drop_all [] = refl
 drop_all (x ∷ xs) = drop_all xs
 
 -- what was counted so far, and what is still to be counted, are the whole
-pub record Counting (c : Counts) (rest whole : Slots) (i : ℕ) : Type 0 where
+pub record Counting (c : WidthCounts) (rest whole : Slots) (i : ℕ) : Type 0 where
   pub eights : c.eights + count_of eight rest ≡ count_of eight whole
   pub fours : c.fours + count_of four rest ≡ count_of four whole
   pub twos : c.twos + count_of two rest ≡ count_of two whole
@@ -35,7 +35,7 @@ pub record Counting (c : Counts) (rest whole : Slots) (i : ℕ) : Type 0 where
   pub twos_below : c.twos ≤ i
   pub ones_below : c.ones ≤ i
 
-counting_step : (c : Counts) (x : Option Slot) (xs : List (Option Slot)) (whole : Slots) (i : ℕ) → Counting c (slots_from (x ∷ xs)) whole i → Counting (counts_after c x) (slots_from xs) whole (i + 1)
+counting_step : (c : WidthCounts) (x : Option Slot) (xs : List (Option Slot)) (whole : Slots) (i : ℕ) → Counting c (slots_from (x ∷ xs)) whole i → Counting (counts_after c x) (slots_from xs) whole (i + 1)
 counting_step c None xs whole i h = grind arith
 counting_step c (Some (slots.U8 n)) xs whole i h = grind arith
 counting_step c (Some (slots.I8 z)) xs whole i h = grind arith
@@ -44,12 +44,12 @@ counting_step c (Some (slots.U32 n)) xs whole i h = grind arith
 counting_step c (Some (slots.U64 n)) xs whole i h = grind arith
 counting_step c (Some (slots.Item t)) xs whole i h = grind arith
 
-pub counting_more : (c d : Counts) (xs : List (Option Slot)) (i : ℕ) (x : Option Slot) → i < length xs → x ≡ get_or xs i x → Counting c (slots_from (drop i xs)) (slots_from xs) i → d ≡ counts_after c x → Counting d (slots_from (drop (i + 1) xs)) (slots_from xs) (i + 1)
+pub counting_more : (c d : WidthCounts) (xs : List (Option Slot)) (i : ℕ) (x : Option Slot) → i < length xs → x ≡ get_or xs i x → Counting c (slots_from (drop i xs)) (slots_from xs) i → d ≡ counts_after c x → Counting d (slots_from (drop (i + 1) xs)) (slots_from xs) (i + 1)
 counting_more c d xs i x lt here h e =
     let split : Counting c (slots_from (x ∷ drop (i + 1) xs)) (slots_from xs) i = subst (λ (ys : List (Option Slot)). Counting c (slots_from ys) (slots_from xs) i) (drop_here xs i x lt here) h in
-    subst (λ (k : Counts). Counting k (slots_from (drop (i + 1) xs)) (slots_from xs) (i + 1)) (sym e) (counting_step c x (drop (i + 1) xs) (slots_from xs) i split)
+    subst (λ (k : WidthCounts). Counting k (slots_from (drop (i + 1) xs)) (slots_from xs) (i + 1)) (sym e) (counting_step c x (drop (i + 1) xs) (slots_from xs) i split)
 
-pub counting_all : (c : Counts) (xs : List (Option Slot)) → Counting c (slots_from (drop (length xs) xs)) (slots_from xs) (length xs) → Counted c (slots_from xs)
+pub counting_all : (c : WidthCounts) (xs : List (Option Slot)) → Counting c (slots_from (drop (length xs) xs)) (slots_from xs) (length xs) → Counted c (slots_from xs)
 counting_all c xs h =
     let end : Counting c no_slots (slots_from xs) (length xs) = subst (λ (ys : List (Option Slot)). Counting c (slots_from ys) (slots_from xs) (length xs)) (drop_all xs) h in
     record { eights = omega (arith, end.eights); fours = omega (arith, end.fours); twos = omega (arith, end.twos); ones = omega (arith, end.ones) }
@@ -126,7 +126,7 @@ pub tree_count-trees_from : (xs : List Item) → tree_count (trees_from xs) ≡ 
 tree_count-trees_from [] = refl
 tree_count-trees_from (x ∷ xs) = ap suc (tree_count-trees_from xs)
 
-pub inline_size-counted : (c : Counts) (s : Slots) → Counted c s → inline_of_counts c ≡ inline_size s
+pub inline_size-counted : (c : WidthCounts) (s : Slots) → Counted c s → inline_of_counts c ≡ inline_size s
 inline_size-counted c s h =
     ap (λ (n : ℕ). (if n == 0 then 4 else 8) + 8 * n + 4 * c.fours + 2 * c.twos + c.ones) h.eights ∙ omega (arith, h.fours, h.twos, h.ones)
 
@@ -149,7 +149,7 @@ items_measured e own f xs n len size fits trees both_size both_fits =
       fits = both_fits ∙ ap (λ (b : Bool). b && f.fits) fits ∙ trees.fits;
     }
 
-pub table_measured : (e own f : Extent) (xs : List (Option Slot)) (c : Counts) → Counted c (slots_from xs) → own.size ≡ min (round_up (4 + 2 * length xs) + round_up (inline_of_counts c)) 4294967296 → own.fits ≡ (nat_le (4 + 2 * length xs) 65535 && nat_le (inline_of_counts c) 65535)
+pub table_measured : (e own f : Extent) (xs : List (Option Slot)) (c : WidthCounts) → Counted c (slots_from xs) → own.size ≡ min (round_up (4 + 2 * length xs) + round_up (inline_of_counts c)) 4294967296 → own.fits ≡ (nat_le (4 + 2 * length xs) 65535 && nat_le (inline_of_counts c) 65535)
     → MeasuresTargets f (slots_from xs) → e.size ≡ min (own.size + f.size) 4294967296 → e.fits ≡ (own.fits && f.fits) → Measures e (table (slots_from xs))
 table_measured e own f xs c counted size fits targets both_size both_fits =
     let s : Slots = slots_from xs in

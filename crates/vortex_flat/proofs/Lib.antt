@@ -10,4 +10,3 @@ pub mod TreesLemmas
 pub mod HangingLemmas
 pub mod Finished
 pub mod ReadsLemmas
-pub mod AppendLemmas

@@ -8,11 +8,11 @@ use Rattle.vortex_flat.specs.declared.item.Slot.TheVariants as slots
 use Rattle.vortex_flat.specs.Tree.{Wide, one, two, four, eight, table, Slots}
 use Rattle.vortex_flat.specs.Item.{slots_from, tree_of}
 use Rattle.vortex_flat.specs.Layout.{low_first, is_wide, count_of, gap, round_up, padded, Places, first_eight, first_places, entries, vtable_size, inline_size, vtable_of, inline_of, head, own_size, slots_of, fours_of, targets_size, targets_fit, tables_fit}
-use Rattle.vortex_flat.specs.SlotBytes.{number_bytes, inline_of_counts, places_of_counts, entry_of, places_after, HaveRoom, four_bytes, four_place, target_size, target_fits}
+use Rattle.vortex_flat.specs.inner.SlotBytes.{number_bytes, inline_of_counts, places_of_counts, entry_of, places_after, HaveRoom, four_bytes, four_place, target_size, target_fits}
 use Rattle.vortex_flat.proofs.ItemLemmas.{drop_here, drop_all, slot_count-slots_from, inline_size-counted}
 use Rattle.vortex_flat.proofs.Lengths.{length-vtable_of, length-inline_of}
-use Rattle.vortex_flat.specs.declared.counts.Counts.{Counts}
-use Rattle.vortex_flat.specs.Extent.{Counted}
+use Rattle.vortex_flat.specs.declared.width_counts.WidthCounts.{WidthCounts}
+use Rattle.vortex_flat.specs.inner.Extent.{Counted}
 use Rattle.vortex_flat.proofs.TableLemmas.{and_split}
 
 -- one more piece was laid down
@@ -144,13 +144,13 @@ join o p q xs ys e f = f ∙ ap (λ (t : List ℕ). t ++ ys) e ∙ append_assoc 
 pub join_padded : (o p q xs : List ℕ) (n : ℕ) → p ≡ o ++ xs → q ≡ p ++ replicate (gap n) 0 → n ≡ length xs → q ≡ o ++ padded xs
 join_padded o p q xs n e f same = join o p q xs (replicate (gap n) 0) e f ∙ ap (λ (k : ℕ). o ++ (xs ++ replicate (gap k) 0)) same
 
-counted_places : (c : Counts) (s : Slots) → Counted c s → places_of_counts c ≡ first_places s
+counted_places : (c : WidthCounts) (s : Slots) → Counted c s → places_of_counts c ≡ first_places s
 counted_places c s h =
     ap (λ (e : ℕ). places_of_counts (record { eights = e; fours = c.fours; twos = c.twos; ones = c.ones })) h.eights
     ∙ ap (λ (f : ℕ). places_of_counts (record { eights = count_of eight s; fours = f; twos = c.twos; ones = c.ones })) h.fours
     ∙ ap (λ (t : ℕ). places_of_counts (record { eights = count_of eight s; fours = count_of four s; twos = t; ones = c.ones })) h.twos
 
-pub vtable_laid : (o o1 o2 o3 o4 : List ℕ) (xs : List (Option Slot)) (c : Counts) (n i : ℕ) (p : Places) → Counted c (slots_from xs) → n ≡ length xs → i ≡ inline_of_counts c → p ≡ places_of_counts c
+pub vtable_laid : (o o1 o2 o3 o4 : List ℕ) (xs : List (Option Slot)) (c : WidthCounts) (n i : ℕ) (p : Places) → Counted c (slots_from xs) → n ≡ length xs → i ≡ inline_of_counts c → p ≡ places_of_counts c
     → o1 ≡ o ++ low_first 2 (4 + 2 * n) → o2 ≡ o1 ++ low_first 2 i → o3 ≡ o2 ++ entries (slots_from xs) p → o4 ≡ o3 ++ replicate (gap (4 + 2 * n)) 0 → o4 ≡ o ++ padded (vtable_of (slots_from xs))
 vtable_laid o o1 o2 o3 o4 xs c n i p counted len inline places e1 e2 e3 e4 =
     let s : Slots = slots_from xs in
@@ -160,7 +160,7 @@ vtable_laid o o1 o2 o3 o4 xs c n i p counted len inline places e1 e2 e3 e4 =
     let f3 : o3 ≡ o2 ++ entries s (first_places s) = e3 ∙ ap (λ (q : Places). o2 ++ entries s q) (places ∙ counted_places c s counted) in
     join_padded o o3 o4 (vtable_of s) (4 + 2 * n) (join o o2 o3 (low_first 2 (vtable_size s) ++ low_first 2 (inline_size s)) (entries s (first_places s)) (join o o1 o2 (low_first 2 (vtable_size s)) (low_first 2 (inline_size s)) f1 f2) f3) e4 (size ∙ sym (length-vtable_of s))
 
-pub inline_laid : (o o1 o2 o3 o4 o5 o6 o7 : List ℕ) (xs : List (Option Slot)) (c : Counts) (h i : ℕ) (p : Places) → Counted c (slots_from xs) → h ≡ round_up (4 + 2 * length xs) → i ≡ inline_of_counts c → p ≡ places_of_counts c
+pub inline_laid : (o o1 o2 o3 o4 o5 o6 o7 : List ℕ) (xs : List (Option Slot)) (c : WidthCounts) (h i : ℕ) (p : Places) → Counted c (slots_from xs) → h ≡ round_up (4 + 2 * length xs) → i ≡ inline_of_counts c → p ≡ places_of_counts c
     → o1 ≡ o ++ low_first 4 h → o2 ≡ o1 ++ replicate (p.eights - 4) 0 → o3 ≡ o2 ++ slots_of eight (slots_from xs) → o4 ≡ o3 ++ fours_of (slots_from xs) (h + p.fours) (h + round_up i) → o5 ≡ o4 ++ slots_of two (slots_from xs) → o6 ≡ o5 ++ slots_of one (slots_from xs)
     → o7 ≡ o6 ++ replicate (gap i) 0 → o7 ≡ o ++ padded (inline_of (slots_from xs))
 inline_laid o o1 o2 o3 o4 o5 o6 o7 xs c h i p counted head_same inline places e1 e2 e3 e4 e5 e6 e7 =
@@ -185,7 +185,7 @@ inline_laid o o1 o2 o3 o4 o5 o6 o7 xs c h i p counted head_same inline places e1
 pub vtable_small : (xs : List (Option Slot)) → vtable_size (slots_from xs) ≤ 65535 → 4 + 2 * length xs ≤ 65535
 vtable_small xs h = omega (arith, h, slot_count-slots_from xs)
 
-pub behind_is : (xs : List (Option Slot)) (c : Counts) (h r i : ℕ) → Counted c (slots_from xs) → h ≡ round_up (4 + 2 * length xs) → i ≡ inline_of_counts c → r ≡ round_up i → h + r ≡ own_size (table (slots_from xs))
+pub behind_is : (xs : List (Option Slot)) (c : WidthCounts) (h r i : ℕ) → Counted c (slots_from xs) → h ≡ round_up (4 + 2 * length xs) → i ≡ inline_of_counts c → r ≡ round_up i → h + r ≡ own_size (table (slots_from xs))
 behind_is xs c h r i counted head_same inline up =
     let s : Slots = slots_from xs in
     let head_is : h ≡ round_up (vtable_size s) = head_same ∙ ap (λ (k : ℕ). round_up (4 + 2 * k)) (sym (slot_count-slots_from xs)) in

@@ -2,7 +2,7 @@
 use Rattle.std.proofs.Common.{◌≡◌, ℕ, zero, suc, ◌+◌, ◌<◌, List, [], ◌∷◌, length, get_or, Option, Some, ap, subst, ◌∙◌, arith}
 use Rattle.std.specs.Option.{option_map}
 use Rattle.vortex_flat.specs.Numbers.{number}
-use Rattle.vortex_flat.specs.Table.{◌>>=◌}
+use Rattle.vortex_prelude.specs.Chain.{◌>>=◌}
 use Rattle.vortex_flat.specs.Targets.{VectorShape, element, if_present, follow, table_place, target_field, table_field, vector_at, vector_field, bytes_at, bytes_field, text_at, text_field, table_element, text_element}
 use Rattle.vortex_flat.specs.Tree.{Tree, Trees, no_trees, tree, tree_at}
 use Rattle.vortex_flat.specs.Reads.{Reads, ReadsNumbers, ReadsTrees}

@@ -6,7 +6,8 @@ use Rattle.std.specs.Int.{w32, cast_signed}
 use Rattle.std.proofs.lemmas.Bool.{leb-true, le-leb, lt-leb}
 use Rattle.std.proofs.Math.Dec.{eqb-suc-zero}
 use Rattle.vortex_flat.specs.Numbers.{number, natural}
-use Rattle.vortex_flat.specs.Table.{TableShape, fits, table_at, field_in, field_at, ◌>>=◌}
+use Rattle.vortex_prelude.specs.Chain.{◌>>=◌}
+use Rattle.vortex_flat.specs.Table.{TableShape, fits, table_at, field_in, field_at}
 use Rattle.vortex_flat.proofs.NumbersLemmas.{number_past}
 
 shape : ℕ → ℕ → ℕ → ℕ → TableShape

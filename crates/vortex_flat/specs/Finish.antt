@@ -5,7 +5,7 @@ use Rattle.vortex_flat.specs.declared.error.FlatError.{FlatError}
 use Rattle.vortex_flat.specs.declared.error.FlatError.TheVariants.{Outside, TooLong, OutOfMemory}
 use Rattle.vortex_flat.specs.Tree.{Tree, table, offsets, bytes, text, numbers, records}
 
--- these bytes are the layout; it is TooLong exactly where there is no layout, unless memory runs out
+-- these bytes are the layout; TooLong exactly where there is no layout, but for lack of memory
 abbrev pub Finishes : Result (Vec ℕ Global) FlatError → Option (List ℕ) → Type 0
 Finishes (Ok v) found = found ≡ Some v.items
 Finishes (Err Outside) found = ⊥

@@ -1,6 +1,7 @@
 -- The one layout. Sizes and places come first, as running sums, and then the bytes.
 use Rattle.std.specs.Prelude.{ℕ, suc, ◌+◌, ◌-◌, ◌*◌, ◌%◌, ◌==◌, ◌&&◌, Bool, true, List, [], ◌∷◌, ◌++◌, length, replicate, Option, Some, None, nat_le, if◌then◌else◌}
 use Rattle.std.specs.Int.{w8, bytes_low_first, cast_unsigned}
+use Rattle.vortex_flat.specs.declared.extent.TheConstants.{LARGEST_PART}
 use Rattle.vortex_flat.specs.Tree.{Wide, one, two, four, eight, wide, Tree, table, offsets, bytes, text, numbers, records, Slots, no_slots, absent, number_slot, signed_slot, target_slot, Trees, no_trees, tree, slot_count, tree_count}
 
 -- the w bytes of n, the lowest first
@@ -35,8 +36,8 @@ count_of w (target_slot t s) = if is_wide four w then suc (count_of w s) else co
 abbrev pub vtable_size : Slots → ℕ
 vtable_size s = 4 + 2 * slot_count s
 
--- Where in a table the next slot of each width goes: the widest come first, from place 4, or 8 where there is one of 8
--- bytes.
+-- Where in a table the next slot of each width goes: the widest come first, from place 4, or 8
+-- where there is one of 8 bytes.
 pub record Places : Type 0 where
   pub eights : ℕ
   pub fours : ℕ
@@ -58,7 +59,8 @@ first_places s = record {
 
 -- the size of the inline part
 abbrev pub inline_size : Slots → ℕ
-inline_size s = first_eight s + 8 * count_of eight s + 4 * count_of four s + 2 * count_of two s + count_of one s
+inline_size s =
+    first_eight s + 8 * count_of eight s + 4 * count_of four s + 2 * count_of two s + count_of one s
 
 -- where in a table the next slot of a width goes
 abbrev pub place_of : Places → Wide → ℕ
@@ -127,15 +129,19 @@ abbrev mutual
 abbrev pub slots_of : Wide → Slots → List ℕ
 slots_of w no_slots = []
 slots_of w (absent s) = slots_of w s
-slots_of w (number_slot v n s) = if is_wide v w then low_first (wide v) n ++ slots_of w s else slots_of w s
-slots_of w (signed_slot z s) = if is_wide one w then cast_unsigned w8 z ∷ slots_of w s else slots_of w s
+slots_of w (number_slot v n s) =
+    if is_wide v w then low_first (wide v) n ++ slots_of w s else slots_of w s
+slots_of w (signed_slot z s) =
+    if is_wide one w then cast_unsigned w8 z ∷ slots_of w s else slots_of w s
 slots_of w (target_slot t s) = slots_of w s
 
--- The numbers of four bytes and the offsets. The first stands at p, and the first target's first byte will be at q.
+-- The numbers of four bytes and the offsets. The first stands at p, and the first target's first
+-- byte will be at q.
 abbrev pub fours_of : Slots → ℕ → ℕ → List ℕ
 fours_of no_slots p q = []
 fours_of (absent s) p q = fours_of s p q
-fours_of (number_slot v n s) p q = if is_wide v four then low_first 4 n ++ fours_of s (p + 4) q else fours_of s p q
+fours_of (number_slot v n s) p q =
+    if is_wide v four then low_first 4 n ++ fours_of s (p + 4) q else fours_of s p q
 fours_of (signed_slot z s) p q = fours_of s p q
 fours_of (target_slot t s) p q = low_first 4 (q + head t - p) ++ fours_of s (p + 4) (q + size_of t)
 
@@ -146,13 +152,15 @@ offsets_of (tree t ts) p q = low_first 4 (q + head t - p) ++ offsets_of ts (p + 
 
 -- the vtable: its own size, that of the inline part, and the entries
 abbrev pub vtable_of : Slots → List ℕ
-vtable_of s = low_first 2 (vtable_size s) ++ low_first 2 (inline_size s) ++ entries s (first_places s)
+vtable_of s =
+    low_first 2 (vtable_size s) ++ low_first 2 (inline_size s) ++ entries s (first_places s)
 
 -- the inline part: the distance from the vtable, and then the slots, the widest first
 abbrev pub inline_of : Slots → List ℕ
 inline_of s =
     low_first 4 (head (table s)) ++ replicate (first_eight s - 4) 0 ++ slots_of eight s
-    ++ fours_of s (head (table s) + (first_places s).fours) (own_size (table s)) ++ slots_of two s ++ slots_of one s
+    ++ fours_of s (head (table s) + (first_places s).fours) (own_size (table s))
+    ++ slots_of two s ++ slots_of one s
 
 -- the numbers of a vector, w bytes each
 abbrev pub numbers_of : ℕ → List ℕ → List ℕ
@@ -162,7 +170,8 @@ numbers_of w (n ∷ ns) = low_first w n ++ numbers_of w ns
 -- the bytes of a tree without what hangs on it
 abbrev pub own_bytes : Tree → List ℕ
 own_bytes (table s) = padded (vtable_of s) ++ padded (inline_of s)
-own_bytes (offsets ts) = padded (low_first 4 (tree_count ts) ++ offsets_of ts 4 (own_size (offsets ts)))
+own_bytes (offsets ts) =
+    padded (low_first 4 (tree_count ts) ++ offsets_of ts 4 (own_size (offsets ts)))
 own_bytes (bytes xs) = padded (low_first 4 (length xs) ++ xs)
 own_bytes (text xs) = padded (low_first 4 (length xs) ++ xs ++ 0 ∷ [])
 own_bytes (numbers xs) = padded (low_first 4 (length xs) ++ numbers_of 4 xs)
@@ -194,7 +203,8 @@ abbrev mutual
 abbrev mutual
   -- whether each table of a tree keeps to the largest sizes that a vtable can tell
   pub tables_fit : Tree → Bool
-  tables_fit (table s) = nat_le (vtable_size s) 65535 && nat_le (inline_size s) 65535 && targets_fit s
+  tables_fit (table s) =
+      nat_le (vtable_size s) LARGEST_PART && nat_le (inline_size s) LARGEST_PART && targets_fit s
   tables_fit (offsets ts) = trees_fit ts
   tables_fit (bytes xs) = true
   tables_fit (text xs) = true
@@ -220,4 +230,5 @@ whole_of t = low_first 4 (8 + head t) ++ low_first 4 0 ++ bytes_of t
 
 -- The layout of a tree, where its tables fit and its bytes are no more than an offset can tell.
 unfoldable pub layout_of : Tree → Option (List ℕ)
-layout_of t = if tables_fit t && nat_le (8 + size_of t) 4_294_967_295 then Some (whole_of t) else None
+layout_of t =
+    if tables_fit t && nat_le (8 + size_of t) 4_294_967_295 then Some (whole_of t) else None

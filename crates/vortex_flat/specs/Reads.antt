@@ -11,18 +11,21 @@ use Rattle.vortex_flat.specs.Tree.{wide, Tree, table, offsets, bytes, text, numb
 -- the numbers from element i on
 abbrev pub ReadsNumbers : List ℕ → VectorShape → ℕ → List ℕ → Type 0
 ReadsNumbers b v i [] = Unit {0}
-ReadsNumbers b v i (n ∷ ns) = (number b (element v i) v.width ≡ Some n) × ReadsNumbers b v (suc i) ns
+ReadsNumbers b v i (n ∷ ns) =
+    (number b (element v i) v.width ≡ Some n) × ReadsNumbers b v (suc i) ns
 
 -- a vector of width w stands at p, and these are its numbers
 abbrev pub ReadsVector : List ℕ → ℕ → ℕ → List ℕ → Type 0
-ReadsVector b p w ns = (v : VectorShape) × (vector_at b p w ≡ Some v) × (v.count ≡ length ns) × ReadsNumbers b v 0 ns
+ReadsVector b p w ns =
+    (v : VectorShape) × (vector_at b p w ≡ Some v) × (v.count ≡ length ns) × ReadsNumbers b v 0 ns
 
 abbrev mutual
   -- the tree stands at p
   pub Reads : List ℕ → ℕ → Tree → Type 0
   Reads b p (table s) = (table_place b p ≡ Some p) × ReadsSlots b p 0 s
   Reads b p (offsets ts) =
-      (v : VectorShape) × (vector_at b p 4 ≡ Some v) × (v.count ≡ tree_count ts) × ReadsTrees b v 0 ts
+      (v : VectorShape) × (vector_at b p 4 ≡ Some v) × (v.count ≡ tree_count ts)
+      × ReadsTrees b v 0 ts
   Reads b p (bytes xs) = bytes_at b p ≡ Some xs
   Reads b p (text xs) = text_at b p ≡ Some xs
   Reads b p (numbers ns) = ReadsVector b p 4 ns
@@ -32,15 +35,18 @@ abbrev mutual
   pub ReadsSlots : List ℕ → ℕ → ℕ → Slots → Type 0
   ReadsSlots b p k no_slots = (j w : ℕ) → k ≤ j → field_at b p j w ≡ Some None
   ReadsSlots b p k (absent s) = ((w : ℕ) → field_at b p k w ≡ Some None) × ReadsSlots b p (suc k) s
-  ReadsSlots b p k (number_slot w n s) = (number_field b p k (wide w) ≡ Some (Some n)) × ReadsSlots b p (suc k) s
-  ReadsSlots b p k (signed_slot z s) = (signed_field b p k ≡ Some (Some z)) × ReadsSlots b p (suc k) s
+  ReadsSlots b p k (number_slot w n s) =
+      (number_field b p k (wide w) ≡ Some (Some n)) × ReadsSlots b p (suc k) s
+  ReadsSlots b p k (signed_slot z s) =
+      (signed_field b p k ≡ Some (Some z)) × ReadsSlots b p (suc k) s
   ReadsSlots b p k (target_slot t s) =
       ((q : ℕ) × (target_field b p k ≡ Some (Some q)) × Reads b q t) × ReadsSlots b p (suc k) s
 
   -- the trees are what the offsets from element i on lead to
   pub ReadsTrees : List ℕ → VectorShape → ℕ → Trees → Type 0
   ReadsTrees b v i no_trees = Unit {0}
-  ReadsTrees b v i (tree t ts) = ((q : ℕ) × (follow b (element v i) ≡ Some q) × Reads b q t) × ReadsTrees b v (suc i) ts
+  ReadsTrees b v i (tree t ts) =
+      ((q : ℕ) × (follow b (element v i) ≡ Some q) × Reads b q t) × ReadsTrees b v (suc i) ts
 
 abbrev mutual
   -- the numbers of a tree are such as their widths hold, and a text is UTF-8

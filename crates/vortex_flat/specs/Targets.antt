@@ -3,7 +3,9 @@ use Rattle.std.specs.Prelude.{ℕ, ◌+◌, ◌*◌, List, length, take, drop, O
 use Rattle.std.specs.Option.{option_map}
 use Rattle.std.specs.Str.{is_utf8}
 use Rattle.vortex_flat.specs.Numbers.{number, signed_8}
-use Rattle.vortex_flat.specs.Table.{◌>>=◌, root_at, table_at, field_at}
+use Rattle.vortex_prelude.specs.Absent.{or_else}
+use Rattle.vortex_prelude.specs.Chain.{◌>>=◌}
+use Rattle.vortex_flat.specs.Table.{root_at, table_at, field_at}
 
 -- f of a field that is there
 abbrev pub if_present : {A B : Type 0} → Option (Option A) → (A → Option B) → Option (Option B)
@@ -49,11 +51,16 @@ pub record VectorShape : Type 0 where
 unfoldable pub vector_at : List ℕ → ℕ → ℕ → Option VectorShape
 vector_at b p w = do
   n ← number b p 4
-  if nat_le (p + 4 + w * n) (length b) then Some (record { first = p + 4; width = w; count = n }) else None
+  if nat_le (p + 4 + w * n) (length b)
+      then Some (record { first = p + 4; width = w; count = n }) else None
 
 -- the vector of width w that a field's offset leads to
 abbrev pub vector_field : List ℕ → ℕ → ℕ → ℕ → Option (Option VectorShape)
 vector_field b p k w = if_present (target_field b p k) (λ i. vector_at b i w)
+
+-- the vector, and where it is absent one of that width without elements
+abbrev pub or_empty : ℕ → Option (Option VectorShape) → Option VectorShape
+or_empty w field = or_else (record { first = 0; width = w; count = 0 }) field
 
 -- the place of element i
 abbrev pub element : VectorShape → ℕ → ℕ

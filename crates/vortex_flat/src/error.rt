@@ -20,7 +20,7 @@ pub enum FlatError {
 }
 
 impl FlatError {
-    ghost use Rattle.vortex_flat.specs.FlatError.{error_number};
+    ghost use Rattle.vortex_flat.specs.ErrorNumber.{error_number};
 
     /// The number of the error.
     pub fn number(&self) -> u8

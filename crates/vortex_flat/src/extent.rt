@@ -1,10 +1,13 @@
 //! How large a layout is, before a byte of it is laid down.
 
-ghost use Rattle.std.specs.Prelude.{◌≡◌, ◌≤◌, ◌<◌, ◌+◌, ◌*◌, ◌^◌, ◌&&◌, min, nat_le};
+ghost use Rattle.std.specs.Prelude.{◌≡◌, ◌≤◌, ◌<◌, ◌+◌, ◌*◌, ◌^◌, ◌&&◌, min};
 ghost use Rattle.vortex_flat.specs.Layout.{round_up};
 
 /// A size from which on nothing is laid out: no offset can tell it.
 pub(crate) const LIMIT: u64 = 4_294_967_296;
+
+/// The greatest size of a vtable or an inline part, each of which is told in two bytes.
+pub(crate) const LARGEST_PART: usize = 65_535;
 
 /// The size of a layout, up to the limit, and whether each table in it is small enough.
 #[derive(Clone, Copy)]
@@ -26,7 +29,7 @@ pub(crate) fn block_size(fixed: usize, width: usize, count: usize) -> u64
     requires fixed { fixed ≤ 8 }
     requires least { 1 ≤ width }
     requires most { width ≤ 8 }
-    ensures { result ≡ min (round_up (fixed + width * count)) 4294967296 }
+    ensures { result ≡ min (round_up (fixed + width * count)) LIMIT }
 {
     if count as u64 >= LIMIT {
         return LIMIT;
@@ -37,9 +40,9 @@ pub(crate) fn block_size(fixed: usize, width: usize, count: usize) -> u64
 impl Extent {
     /// What `self` is with `other` behind it.
     pub(crate) fn and(self, other: Extent) -> Extent
-        requires self_small { self.size ≤ 4294967296 }
-        requires other_small { other.size ≤ 4294967296 }
-        ensures size { result.size ≡ min (self.size + other.size) 4294967296 }
+        requires self_small { self.size ≤ LIMIT }
+        requires other_small { other.size ≤ LIMIT }
+        ensures size { result.size ≡ min (self.size + other.size) LIMIT }
         ensures fits { result.fits ≡ (self.fits && other.fits) }
     {
         Extent {

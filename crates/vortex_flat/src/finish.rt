@@ -16,7 +16,8 @@ use std::alloc::Global;
 
 /// What is laid out is read again. This does nothing when the program runs.
 pub fn read_again()
-    ensures { (t : Tree) (b : List ℕ) → IsTable t → InRange t → layout_of t ≡ Some b → ReadsAgain b t }
+    ensures { (t : Tree) (b : List ℕ) → IsTable t → InRange t → layout_of t ≡ Some b
+        → ReadsAgain b t }
 {}
 
 impl Items {

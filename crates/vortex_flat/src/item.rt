@@ -4,11 +4,11 @@ ghost use Rattle.std.specs.Prelude.{◌≡◌, ◌≤◌, ◌<◌, ◌+◌, ◌^
 ghost use Rattle.vortex_flat.specs.Tree.{table, offsets};
 ghost use Rattle.vortex_flat.specs.Layout.{head, round_up, tables_fit};
 ghost use Rattle.vortex_flat.specs.Item.{slots_from, trees_from, tree_of};
-ghost use Rattle.vortex_flat.specs.Extent.{Measures, MeasuresTargets, MeasuresTrees};
-ghost use Rattle.vortex_flat.specs.SlotBytes.{extent_after};
+ghost use Rattle.vortex_flat.specs.inner.Extent.{Measures, MeasuresTargets, MeasuresTrees};
+ghost use Rattle.vortex_flat.specs.inner.SlotBytes.{extent_after};
 
-use crate::counts::Counts;
-use crate::extent::{Extent, LIMIT, block_size, round_up};
+use crate::extent::{Extent, LARGEST_PART, LIMIT, block_size, round_up};
+use crate::width_counts::WidthCounts;
 use std::marker::Model;
 
 /// A table, a vector or a text that is to be laid out, with all that hangs on it.
@@ -44,7 +44,8 @@ pub enum Slot {
 
 /// The fields of a table by number, and None where one is absent.
 ///
-/// How large its layout is was measured when it was made, so that places are known before a byte is laid down.
+/// How large its layout is was measured when it was made, so that places are known before a byte is
+/// laid down.
 #[cycle(items)]
 #[derive(Drop)]
 pub struct Slots {
@@ -62,14 +63,14 @@ pub struct Items {
 
 impl Model for Slots {
     ghost use Rattle.vortex_flat.specs.Tree.{Slots as SlotsTree, table};
-    ghost use Rattle.vortex_flat.specs.TreeCode.{coded_slots, slots_weight};
+    ghost use Rattle.vortex_flat.specs.inner.TreeCode.{coded_slots, slots_weight};
 
     ghost Value = { SlotsTree };
 
     ghost coded = { coded_slots };
 
     ghost use Rattle.vortex_flat.specs.Item.{slots_from};
-    ghost use Rattle.vortex_flat.specs.Extent.{Measures};
+    ghost use Rattle.vortex_flat.specs.inner.Extent.{Measures};
 
     ghost view = { λ s. slots_from s.slots.items };
 
@@ -77,21 +78,21 @@ impl Model for Slots {
 
     ghost size = { slots_weight };
 
-    ghost use Rattle.vortex_flat.specs.ItemFalls.{slots_fall};
+    ghost use Rattle.vortex_flat.specs.inner.ItemFalls.{slots_fall};
 
     ghost size_decreases = { λ s h. slots_fall s };
 }
 
 impl Model for Items {
     ghost use Rattle.vortex_flat.specs.Tree.{Trees, offsets};
-    ghost use Rattle.vortex_flat.specs.TreeCode.{coded_trees, trees_weight};
+    ghost use Rattle.vortex_flat.specs.inner.TreeCode.{coded_trees, trees_weight};
 
     ghost Value = { Trees };
 
     ghost coded = { coded_trees };
 
     ghost use Rattle.vortex_flat.specs.Item.{trees_from};
-    ghost use Rattle.vortex_flat.specs.Extent.{Measures};
+    ghost use Rattle.vortex_flat.specs.inner.Extent.{Measures};
 
     ghost view = { λ s. trees_from s.items.items };
 
@@ -99,14 +100,14 @@ impl Model for Items {
 
     ghost size = { trees_weight };
 
-    ghost use Rattle.vortex_flat.specs.ItemFalls.{trees_fall};
+    ghost use Rattle.vortex_flat.specs.inner.ItemFalls.{trees_fall};
 
     ghost size_decreases = { λ s h. trees_fall s };
 }
 
 /// What `extent` is with what hangs on one more slot.
 fn with_target(extent: Extent, slot: &Option<Slot>) -> Extent
-    requires { extent.size ≤ 4294967296 }
+    requires { extent.size ≤ LIMIT }
     ensures { result ≡ extent_after extent slot.now }
 {
     match slot {
@@ -132,12 +133,13 @@ fn targets_extent(slots: &[Option<Slot>]) -> Extent
 fn own_extent(vtable_size: usize, inline_size: usize) -> Extent
     requires vtable { vtable_size < 2 ^ 62 }
     requires inline { inline_size < 2 ^ 62 }
-    ensures size { result.size ≡ min (round_up vtable_size + round_up inline_size) 4294967296 }
-    ensures fits { result.fits ≡ (nat_le vtable_size 65535 && nat_le inline_size 65535) }
+    ensures size { result.size ≡ min (round_up vtable_size + round_up inline_size) LIMIT }
+    ensures fits { result.fits
+        ≡ (nat_le vtable_size LARGEST_PART && nat_le inline_size LARGEST_PART) }
 {
     Extent {
         size: ((round_up(vtable_size) + round_up(inline_size)) as u64).min(LIMIT),
-        fits: vtable_size <= 65535 && inline_size <= 65535,
+        fits: vtable_size <= LARGEST_PART && inline_size <= LARGEST_PART,
     }
 }
 
@@ -152,7 +154,7 @@ fn table_extent(slots: &[Option<Slot>]) -> Extent
         };
     }
     let vtable_size = 4 + 2 * slots.len();
-    let inline_size = Counts::of(slots).inline_size();
+    let inline_size = WidthCounts::of(slots).inline_size();
     own_extent(vtable_size, inline_size).and(targets_extent(slots))
 }
 

@@ -265,7 +265,8 @@ fn nested_tables(rt: HostRuntime) -> Result<(), Fail> {
     Ok(())
 }
 
-/// A table with each form of field: an absent one beside one that has its default, vectors and what they lead to.
+/// A table with each form of field: an absent one beside one that has its default, vectors and what
+/// they lead to.
 fn every_form(alloc: Global) -> Result<Vec<u8>, FlatError> {
     let leaf = Slots::new(vec![in alloc; Some(Slot::U64(1 << 40))]?);
     let trees = vec![in alloc; Item::Table(no_slots(alloc)), Item::Table(leaf)]?;

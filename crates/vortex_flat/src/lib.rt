@@ -1,11 +1,10 @@
 //! Flat buffers, read and laid out.
 //!
-//! The rules are those of the FlatBuffers binary format. The readers ask for no alignment, and a reader of hostile
-//! bytes meets [`FlatError::Outside`] and nothing else. There is one layout of each tree of items, [`Items::finish`]
-//! makes it, and what is laid out is read again.
+//! The rules are those of the FlatBuffers binary format. The readers ask for no alignment, and a
+//! reader of hostile bytes meets [`FlatError::Outside`] and nothing else. There is one layout of
+//! each tree of items, [`Items::finish`] makes it, and what is laid out is read again.
 #![tactic(auto)]
 
-mod counts;
 mod error;
 mod extent;
 mod finish;
@@ -20,6 +19,7 @@ mod targets;
 mod tree;
 mod vector;
 mod vectors;
+mod width_counts;
 
 pub use error::FlatError;
 pub use finish::read_again;

@@ -1,8 +1,8 @@
 //! Where in a table its slots go.
 
-ghost use Rattle.std.specs.Prelude.{◌≡◌, ◌<◌, ◌^◌, IfOk, ◌++◌};
+ghost use Rattle.std.specs.Prelude.{◌≡◌, ◌<◌, IfOk, ◌++◌};
 ghost use Rattle.vortex_flat.specs.Layout.{low_first};
-ghost use Rattle.vortex_flat.specs.SlotBytes.{entry_of, places_after, places_of};
+ghost use Rattle.vortex_flat.specs.inner.SlotBytes.{entry_of, places_after, places_of};
 
 use crate::item::Slot;
 use crate::put::put_u16;
@@ -10,16 +10,16 @@ use std::alloc::AllocError;
 
 /// Where in a table the next slot of each width goes.
 #[derive(Clone, Copy)]
-pub(crate) struct Places {
+pub(crate) struct SlotPlaces {
     pub(crate) eights: usize,
     pub(crate) fours: usize,
     pub(crate) twos: usize,
     pub(crate) ones: usize,
 }
 
-impl Places {
+impl SlotPlaces {
     /// The places after one more slot.
-    fn after(self, slot: &Option<Slot>) -> Places
+    fn after(self, slot: &Option<Slot>) -> SlotPlaces
         requires eights { self.eights < 65536 }
         requires fours { self.fours < 65536 }
         requires twos { self.twos < 65536 }
@@ -55,7 +55,7 @@ impl Places {
         self,
         out: &mut Vec<u8>,
         slot: &Option<Slot>,
-    ) -> Result<Places, AllocError>
+    ) -> Result<SlotPlaces, AllocError>
         requires eights { self.eights < 65536 }
         requires fours { self.fours < 65536 }
         requires twos { self.twos < 65536 }

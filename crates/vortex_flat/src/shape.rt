@@ -5,7 +5,7 @@ ghost use Rattle.std.specs.Int.{w32, cast_signed};
 ghost use Rattle.vortex_flat.specs.Answers.{Answers};
 ghost use Rattle.vortex_flat.specs.Numbers.{natural};
 ghost use Rattle.vortex_flat.specs.Table.{fits, table_at};
-ghost use Rattle.vortex_flat.specs.Shape.{shape_of};
+ghost use Rattle.vortex_flat.specs.inner.Shape.{shape_of};
 
 use crate::error::FlatError;
 use crate::numbers::{u16_at, u32_at};
@@ -19,7 +19,8 @@ pub(crate) struct Shape {
     pub(crate) inline_size: u16,
 }
 
-/// The place of a vtable that stands `back` before `place`, by two's complement, where that is a number.
+/// The place of a vtable that stands `back` before `place`, by two's complement, where that is a
+/// number.
 fn vtable_place(place: usize, back: u32) -> Option<usize>
     ensures { MatchOption result
         (IfSome (natural (pos place -ℤ cast_signed w32 back)) (λ v. 2 ^ 64 ≤ v))

@@ -1,22 +1,28 @@
 //! A table laid down, without what hangs on it.
 
-ghost use Rattle.std.specs.Prelude.{◌≡◌, ◌≤◌, ◌<◌, ◌^◌, ◌+◌, ◌*◌, ◌++◌, true, length, OnOk};
+ghost use Rattle.std.specs.Prelude.{◌≡◌, ◌≤◌, ◌<◌, ◌^◌, ◌+◌, ◌*◌, ◌++◌, true, OnOk};
 ghost use Rattle.vortex_flat.specs.Tree.{one, two, four, eight, table};
 ghost use Rattle.vortex_flat.specs.Layout.{count_of, entries, fours_of, inline_of, inline_size, own_bytes, own_size, padded, slots_of, targets_fit, targets_size, vtable_of, vtable_size};
 ghost use Rattle.vortex_flat.specs.Item.{slots_from};
-ghost use Rattle.vortex_flat.specs.Extent.{Counted};
-ghost use Rattle.vortex_flat.specs.SlotBytes.{HaveRoom, four_bytes, four_place, number_bytes, places_of, target_fits, target_size};
+ghost use Rattle.vortex_flat.specs.declared.extent.TheConstants.{LARGEST_PART};
+ghost use Rattle.vortex_flat.specs.inner.Extent.{Counted};
+ghost use Rattle.vortex_flat.specs.inner.SlotBytes.{HaveRoom, four_bytes, four_place, number_bytes, places_of, target_fits, target_size};
 
-use crate::counts::Counts;
 use crate::extent::round_up;
 use crate::item::Slot;
-use crate::places::Places;
+use crate::places::SlotPlaces;
 use crate::put::{put_padding, put_u16, put_u32, put_zeros};
+use crate::width_counts::WidthCounts;
 use std::alloc::AllocError;
 
-fn put_entries(out: &mut Vec<u8>, slots: &[Option<Slot>], first: Places) -> Result<(), AllocError>
-    requires { HaveRoom (places_of first) (slots_from slots.now) 65535 }
-    ensures { OnOk result (out.new.items ≡ out.old.items ++ entries (slots_from slots.now) (places_of first)) }
+fn put_entries(
+    out: &mut Vec<u8>,
+    slots: &[Option<Slot>],
+    first: SlotPlaces,
+) -> Result<(), AllocError>
+    requires { HaveRoom (places_of first) (slots_from slots.now) LARGEST_PART }
+    ensures { OnOk result (out.new.items
+        ≡ out.old.items ++ entries (slots_from slots.now) (places_of first)) }
 {
     let mut places = first;
     for slot in slots {
@@ -137,7 +143,8 @@ fn put_fours(
     requires order { first + 4 * count_of four (slots_from slots.now) ≤ behind }
     requires short { behind + targets_size (slots_from slots.now) < 2 ^ 32 }
     requires fits { targets_fit (slots_from slots.now) ≡ true }
-    ensures { OnOk result (out.new.items ≡ out.old.items ++ fours_of (slots_from slots.now) first behind) }
+    ensures { OnOk result (out.new.items
+        ≡ out.old.items ++ fours_of (slots_from slots.now) first behind) }
 {
     let mut place = first;
     let mut target = behind;
@@ -150,11 +157,16 @@ fn put_fours(
 }
 
 /// Lays down the vtable of a table.
-fn put_vtable(out: &mut Vec<u8>, slots: &[Option<Slot>], counts: Counts) -> Result<(), AllocError>
+fn put_vtable(
+    out: &mut Vec<u8>,
+    slots: &[Option<Slot>],
+    counts: WidthCounts,
+) -> Result<(), AllocError>
     requires counted { Counted counts (slots_from slots.now) }
-    requires vtable { vtable_size (slots_from slots.now) ≤ 65535 }
-    requires inline { inline_size (slots_from slots.now) ≤ 65535 }
-    ensures { OnOk result (out.new.items ≡ out.old.items ++ padded (vtable_of (slots_from slots.now))) }
+    requires vtable { vtable_size (slots_from slots.now) ≤ LARGEST_PART }
+    requires inline { inline_size (slots_from slots.now) ≤ LARGEST_PART }
+    ensures { OnOk result (out.new.items
+        ≡ out.old.items ++ padded (vtable_of (slots_from slots.now))) }
 {
     let size = 4 + 2 * slots.len();
     put_u16(out, size)?;
@@ -165,13 +177,19 @@ fn put_vtable(out: &mut Vec<u8>, slots: &[Option<Slot>], counts: Counts) -> Resu
 }
 
 /// Lays down the inline part of a table, whose targets come right behind it.
-fn put_inline(out: &mut Vec<u8>, slots: &[Option<Slot>], counts: Counts) -> Result<(), AllocError>
+fn put_inline(
+    out: &mut Vec<u8>,
+    slots: &[Option<Slot>],
+    counts: WidthCounts,
+) -> Result<(), AllocError>
     requires counted { Counted counts (slots_from slots.now) }
-    requires vtable { vtable_size (slots_from slots.now) ≤ 65535 }
-    requires inline { inline_size (slots_from slots.now) ≤ 65535 }
-    requires short { own_size (table (slots_from slots.now)) + targets_size (slots_from slots.now) < 2 ^ 32 }
+    requires vtable { vtable_size (slots_from slots.now) ≤ LARGEST_PART }
+    requires inline { inline_size (slots_from slots.now) ≤ LARGEST_PART }
+    requires short { own_size (table (slots_from slots.now)) + targets_size (slots_from slots.now)
+        < 2 ^ 32 }
     requires fits { targets_fit (slots_from slots.now) ≡ true }
-    ensures { OnOk result (out.new.items ≡ out.old.items ++ padded (inline_of (slots_from slots.now))) }
+    ensures { OnOk result (out.new.items
+        ≡ out.old.items ++ padded (inline_of (slots_from slots.now))) }
 {
     let head = round_up(4 + 2 * slots.len());
     let size = counts.inline_size();
@@ -189,13 +207,15 @@ fn put_inline(out: &mut Vec<u8>, slots: &[Option<Slot>], counts: Counts) -> Resu
 
 /// Lays down a table, without what hangs on it.
 pub(crate) fn put_slots(out: &mut Vec<u8>, slots: &[Option<Slot>]) -> Result<(), AllocError>
-    requires vtable { vtable_size (slots_from slots.now) ≤ 65535 }
-    requires inline { inline_size (slots_from slots.now) ≤ 65535 }
-    requires short { own_size (table (slots_from slots.now)) + targets_size (slots_from slots.now) < 2 ^ 32 }
+    requires vtable { vtable_size (slots_from slots.now) ≤ LARGEST_PART }
+    requires inline { inline_size (slots_from slots.now) ≤ LARGEST_PART }
+    requires short { own_size (table (slots_from slots.now)) + targets_size (slots_from slots.now)
+        < 2 ^ 32 }
     requires fits { targets_fit (slots_from slots.now) ≡ true }
-    ensures { OnOk result (out.new.items ≡ out.old.items ++ own_bytes (table (slots_from slots.now))) }
+    ensures { OnOk result (out.new.items
+        ≡ out.old.items ++ own_bytes (table (slots_from slots.now))) }
 {
-    let counts = Counts::of(slots);
+    let counts = WidthCounts::of(slots);
     put_vtable(out, slots, counts)?;
     put_inline(out, slots, counts)?;
     Ok(())

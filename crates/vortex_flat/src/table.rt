@@ -4,7 +4,7 @@ ghost use Rattle.std.specs.Prelude.{◌≡◌, ◌≤◌, ◌⊎◌, IfOk, IfSom
 ghost use Rattle.std.specs.Option.{option_copied, option_map};
 ghost use Rattle.vortex_flat.specs.Answers.{Answers};
 ghost use Rattle.vortex_flat.specs.Table.{field_at, root_at};
-ghost use Rattle.vortex_flat.specs.Targets.{bytes_field, number_field, signed_field, table_field, table_place, table_view, target_field, text_field, vector_field, vector_view};
+ghost use Rattle.vortex_flat.specs.Targets.{bytes_field, number_field, or_empty, signed_field, table_field, table_place, table_view, target_field, text_field, vector_field, vector_view};
 
 use crate::error::FlatError;
 use crate::numbers::{u8_at, u16_at, u32_at, u64_at};
@@ -23,7 +23,7 @@ pub struct Table<'a> {
 impl<'a> Model for Table<'a> {
     ghost use Rattle.std.specs.Prelude.{◌≡◌, Some};
     ghost use Rattle.vortex_flat.specs.Table.{table_at};
-    ghost use Rattle.vortex_flat.specs.Shape.{shape_of};
+    ghost use Rattle.vortex_flat.specs.inner.Shape.{shape_of};
     ghost use Rattle.vortex_flat.specs.Targets.{TableView, table_view};
 
     ghost Value = { TableView };
@@ -33,10 +33,11 @@ impl<'a> Model for Table<'a> {
     ghost invariant = { λ t. table_at t.bytes.now t.shape.place ≡ Some (shape_of t.shape) };
 }
 
-/// The table that the buffer begins with the place of. The other readers answer like this one: what stands there, and
-/// [`FlatError::Outside`] where nothing does.
+/// The table that the buffer begins with the place of. The other readers answer like this one: what
+/// stands there, and [`FlatError::Outside`] where nothing does.
 pub fn root(bytes: &[u8]) -> Result<Table<'_>, FlatError>
-    ensures { Answers (λ t. t) result (option_map (λ t. table_view bytes.now t.place) (root_at bytes.now)) }
+    ensures { Answers (λ t. t) result
+        (option_map (λ t. table_view bytes.now t.place) (root_at bytes.now)) }
 {
     let place = u32_at(bytes, 0)?;
     Table::at(bytes, place as usize)
@@ -46,7 +47,8 @@ impl<'a> Table<'a> {
     #[tactic(auto, using(crate::proofs::TableLemmas::at_own_place))]
     /// The table at `place`.
     pub fn at(bytes: &'a [u8], place: usize) -> Result<Table<'a>, FlatError>
-        ensures { Answers (λ t. t) result (option_map (table_view bytes.now) (table_place bytes.now place)) }
+        ensures { Answers (λ t. t) result
+            (option_map (table_view bytes.now) (table_place bytes.now place)) }
     {
         let shape = shape_at(bytes, place)?;
         Ok(Table { bytes, shape })
@@ -149,7 +151,8 @@ impl<'a> Table<'a> {
     /// The table that field `k` leads to.
     pub fn field_table(&self, k: u16) -> Result<Option<Table<'a>>, FlatError>
         ensures { Answers (λ x. x) result
-            (option_map (option_map (table_view self.now.buffer)) (table_field self.now.buffer self.now.place k)) }
+            (option_map (option_map (table_view self.now.buffer))
+            (table_field self.now.buffer self.now.place k)) }
     {
         let Some(place) = self.target(k)? else {
             return Ok(None);
@@ -177,8 +180,9 @@ impl<'a> Table<'a> {
         Ok(Some(text_at(self.bytes, place)?))
     }
 
-    /// The vector that field `k` leads to, each of whose elements is `width` bytes wide: 1, 4 or 8. No vector of the
-    /// schemas here has elements of two bytes, and [`Vector`] has no call that reads them.
+    /// The vector that field `k` leads to, each of whose elements is `width` bytes wide: 1, 4 or 8.
+    /// No vector of the schemas here has elements of two bytes, and [`Vector`] has no call that
+    /// reads them.
     pub fn field_vector(&self, k: u16, width: usize) -> Result<Option<Vector<'a>>, FlatError>
         requires { (width ≡ 1) ⊎ (width ≡ 4) ⊎ (width ≡ 8) }
         ensures found { Answers (λ x. x) result
@@ -190,5 +194,19 @@ impl<'a> Table<'a> {
             return Ok(None);
         };
         Ok(Some(vector_at(self.bytes, place, width)?))
+    }
+
+    /// The same, and a vector without elements where the field is absent.
+    pub fn field_vector_or_empty(&self, k: u16, width: usize) -> Result<Vector<'a>, FlatError>
+        requires { (width ≡ 1) ⊎ (width ≡ 4) ⊎ (width ≡ 8) }
+        ensures found { Answers (λ x. x) result
+            (option_map (vector_view self.now.buffer)
+            (or_empty width (vector_field self.now.buffer self.now.place k width))) }
+        ensures width { IfOk result (λ vector. vector.shape.width ≡ width) }
+    {
+        let Some(place) = self.target(k)? else {
+            return Ok(Vector::empty(self.bytes, width));
+        };
+        vector_at(self.bytes, place, width)
     }
 }

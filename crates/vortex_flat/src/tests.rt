@@ -1,7 +1,8 @@
 use super::*;
 use std::test::Fail;
 
-/// A message that announces a type, without its length of four bytes: its header, and its body, a 32-bit integer.
+/// A message that announces a type, without its length of four bytes: its header, and its body, a
+/// 32-bit integer.
 const HEADER: [u8; 64] = [
     24, 0, 0, 0, 0, 0, 0, 0, 12, 0, 22, 0, 20, 0, 21, 0, 16, 0, 8, 0, 0, 0, 0, 0, 16, 0, 0, 0, 0,
     0, 0, 0, 48, 0, 0, 0, 0, 0, 0, 0, 16, 0, 0, 0, 0, 3, 0, 0, 4, 0, 4, 0, 0, 0, 0, 0, 8, 0, 0, 0,
@@ -61,7 +62,8 @@ fn truncations(rt: HostRuntime) {
 fn hostile_bytes(rt: HostRuntime) {
     let outside = Err(FlatError::Outside);
     assert_eq!(rt; text_of(&TEXT), Ok(Some("hi")));
-    // the size of the vtable, the inline size, the entry, the table's distance, the offset, the count, the bytes
+    // the size of the vtable, the inline size, the entry, the table's distance, the offset, the
+    // count, the bytes
     for (at, byte, want) in [
         (4, 5, outside),
         (4, 0, outside),
@@ -117,6 +119,13 @@ fn vectors(rt: HostRuntime) -> Result<(), Fail> {
     assert_eq!(rt; letters.len(), 2);
     assert!(rt; !letters.is_empty());
     assert!(rt; table.field_vector(0, 4).is_err());
+    for (k, count) in [(0, 2), (1, 0)] {
+        assert_eq!(rt;
+            table.field_vector_or_empty(k, 1)?.len(),
+            count,
+            "field {k}"
+        );
+    }
     bytes[20] = 255;
     bytes[21] = 255;
     bytes[22] = 255;

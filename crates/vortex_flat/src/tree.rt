@@ -4,7 +4,7 @@ ghost use Rattle.std.specs.Prelude.{◌≡◌, ◌<◌, ◌^◌, ◌++◌, true,
 ghost use Rattle.vortex_flat.specs.Layout.{bytes_of, size_of, tables_fit, targets_bytes, targets_fit, targets_size, trees_bytes, trees_fit, trees_size};
 ghost use Rattle.vortex_flat.specs.Item.{slots_from, tree_of, trees_from};
 ghost use Rattle.vortex_flat.specs.Reads.{InRange, SlotsInRange, TreesInRange};
-ghost use Rattle.vortex_flat.specs.SlotBytes.{SlotInRange, target_bytes, target_fits, target_size};
+ghost use Rattle.vortex_flat.specs.inner.SlotBytes.{SlotInRange, target_bytes, target_fits, target_size};
 
 use crate::item::{Item, Slot};
 use crate::slots::put_slots;
@@ -78,7 +78,8 @@ fn put_target(out: &mut Vec<u8>, slot: &Option<Slot>) -> Result<(), AllocError>
 fn put_targets(out: &mut Vec<u8>, slots: &[Option<Slot>]) -> Result<(), AllocError>
     requires short { targets_size (slots_from slots.now) < 2 ^ 32 }
     requires fits { targets_fit (slots_from slots.now) ≡ true }
-    ensures laid { OnOk result (out.new.items ≡ out.old.items ++ targets_bytes (slots_from slots.now)) }
+    ensures laid { OnOk result (out.new.items
+        ≡ out.old.items ++ targets_bytes (slots_from slots.now)) }
     ensures range { OnOk result (SlotsInRange (slots_from slots.now)) }
 {
     for slot in slots {
@@ -91,7 +92,8 @@ fn put_targets(out: &mut Vec<u8>, slots: &[Option<Slot>]) -> Result<(), AllocErr
 fn put_trees(out: &mut Vec<u8>, items: &[Item]) -> Result<(), AllocError>
     requires short { trees_size (trees_from items.now) < 2 ^ 32 }
     requires fits { trees_fit (trees_from items.now) ≡ true }
-    ensures laid { OnOk result (out.new.items ≡ out.old.items ++ trees_bytes (trees_from items.now)) }
+    ensures laid { OnOk result (out.new.items
+        ≡ out.old.items ++ trees_bytes (trees_from items.now)) }
     ensures range { OnOk result (TreesInRange (trees_from items.now)) }
 {
     for item in items {

@@ -27,7 +27,8 @@ impl<'a> Model for Vector<'a> {
 
     ghost Value = { VectorView };
 
-    ghost view = { λ v. vector_view v.bytes.now (record { first = v.first; width = v.width; count = v.count }) };
+    ghost view = { λ v. vector_view v.bytes.now
+        (record { first = v.first; width = v.width; count = v.count }) };
 
     ghost invariant = { λ v. v.first + v.width * v.count ≤ length v.bytes.now };
 }
@@ -36,7 +37,8 @@ impl<'a> Model for Vector<'a> {
 /// The vector at `place`, each of whose elements is `width` bytes wide.
 pub(crate) fn vector_at(bytes: &[u8], place: usize, width: usize) -> Result<Vector<'_>, FlatError>
     requires { width ≤ 8 }
-    ensures found { Answers (λ x. x) result (option_map (vector_view bytes.now) (vector_at bytes.now place width)) }
+    ensures found { Answers (λ x. x) result
+        (option_map (vector_view bytes.now) (vector_at bytes.now place width)) }
     ensures width { IfOk result (λ vector. vector.shape.width ≡ width) }
 {
     let count = u32_at(bytes, place)? as usize;
@@ -53,9 +55,22 @@ pub(crate) fn vector_at(bytes: &[u8], place: usize, width: usize) -> Result<Vect
 }
 
 impl<'a> Vector<'a> {
+    /// No elements, of that width.
+    pub(crate) fn empty(bytes: &'a [u8], width: usize) -> Vector<'a>
+        ensures { result ≡ vector_view bytes.now (record { first = 0; width = width; count = 0 }) }
+    {
+        Vector {
+            bytes,
+            first: 0,
+            width,
+            count: 0,
+        }
+    }
+
     /// All elements lie in the buffer. This does nothing when the program runs.
     pub fn law(&self)
-        ensures { self.now.shape.first + self.now.shape.width * self.now.shape.count ≤ length self.now.buffer }
+        ensures { self.now.shape.first + self.now.shape.width * self.now.shape.count
+            ≤ length self.now.buffer }
     {
         let _ = &self.first;
     }
@@ -77,7 +92,8 @@ impl<'a> Vector<'a> {
     /// The bytes of a vector of width 1.
     pub(crate) fn bytes(&self) -> &'a [u8]
         requires { self.now.shape.width ≡ 1 }
-        ensures { result.now ≡ take self.now.shape.count (drop self.now.shape.first self.now.buffer) }
+        ensures { result.now
+            ≡ take self.now.shape.count (drop self.now.shape.first self.now.buffer) }
     {
         &self.bytes[self.first..self.first + self.count]
     }
@@ -96,7 +112,8 @@ impl<'a> Vector<'a> {
         requires width { self.now.shape.width ≡ 4 }
         requires index { i < self.now.shape.count }
         ensures { Answers (λ t. t) result
-            (option_map (table_view self.now.buffer) (table_element self.now.buffer self.now.shape i)) }
+            (option_map (table_view self.now.buffer)
+            (table_element self.now.buffer self.now.shape i)) }
     {
         Table::at(self.bytes, follow(self.bytes, self.place_of(i))?)
     }
@@ -105,7 +122,8 @@ impl<'a> Vector<'a> {
     pub fn str(&self, i: usize) -> Result<&'a str, FlatError>
         requires width { self.now.shape.width ≡ 4 }
         requires index { i < self.now.shape.count }
-        ensures { Answers (λ text. text.now) result (text_element self.now.buffer self.now.shape i) }
+        ensures { Answers (λ text. text.now) result
+            (text_element self.now.buffer self.now.shape i) }
     {
         text_at(self.bytes, follow(self.bytes, self.place_of(i))?)
     }

@@ -80,7 +80,8 @@ fn put_each_offset(out: &mut Vec<u8>, items: &[Item], behind: usize) -> Result<(
     requires order { 4 + 4 * tree_count (trees_from items.now) ≤ behind }
     requires short { behind + trees_size (trees_from items.now) < 2 ^ 32 }
     requires fits { trees_fit (trees_from items.now) ≡ true }
-    ensures { OnOk result (out.new.items ≡ out.old.items ++ offsets_of (trees_from items.now) 4 behind) }
+    ensures { OnOk result (out.new.items
+        ≡ out.old.items ++ offsets_of (trees_from items.now) 4 behind) }
 {
     let mut place = 4;
     let mut target = behind;
@@ -93,9 +94,11 @@ fn put_each_offset(out: &mut Vec<u8>, items: &[Item], behind: usize) -> Result<(
 }
 
 pub(crate) fn put_offsets(out: &mut Vec<u8>, items: &[Item]) -> Result<(), AllocError>
-    requires short { own_size (offsets (trees_from items.now)) + trees_size (trees_from items.now) < 2 ^ 32 }
+    requires short { own_size (offsets (trees_from items.now)) + trees_size (trees_from items.now)
+        < 2 ^ 32 }
     requires fits { trees_fit (trees_from items.now) ≡ true }
-    ensures { OnOk result (out.new.items ≡ out.old.items ++ own_bytes (offsets (trees_from items.now))) }
+    ensures { OnOk result (out.new.items
+        ≡ out.old.items ++ own_bytes (offsets (trees_from items.now))) }
 {
     let count = items.len();
     put_u32(out, count)?;

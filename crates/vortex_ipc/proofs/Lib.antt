@@ -1,2 +1,4 @@
 pub mod Written
 pub mod StreamLemmas
+pub mod CallLemmas
+pub mod ReadingLemmas

@@ -1,4 +1,7 @@
 pub mod Counts
+pub mod Reading
+pub mod Writing
 pub mod InMemory
 pub mod Header
 pub mod Stream
+pub mod ErrorNumber

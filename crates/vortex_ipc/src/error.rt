@@ -1,4 +1,5 @@
 ghost use Rattle.std.specs.Prelude.{◌≡◌};
+ghost use Rattle.vortex_ipc.specs.ErrorNumber.{error_number};
 ghost use Rattle.vortex_ipc.specs.declared.error.IpcError.TheVariants.{OutOfMemory};
 
 use std::alloc::{AllocError, AllocFailed};
@@ -14,7 +15,7 @@ pub enum IpcError {
 impl IpcError {
     /// The number under which documents list the error.
     pub fn number(self) -> u8
-        ensures { result ≡ 12 }
+        ensures { result ≡ error_number self }
     {
         match self {
             IpcError::OutOfMemory => 12,

@@ -1,12 +1,15 @@
 //! Streams of messages: the outside as traits, and what bytes are a message and a stream.
 #![tactic(auto)]
 
+mod counts;
 mod error;
 mod memory;
+pub mod schema;
 mod sink;
 mod source;
 mod std_io;
 
+pub use counts::{SinkCounts, SourceCounts};
 pub use error::IpcError;
 pub use memory::{VecSink, VecSource};
 pub use sink::{ShortWrite, Sink, SinkFailed, write_all};

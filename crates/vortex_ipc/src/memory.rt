@@ -1,10 +1,11 @@
 //! A source and a sink in memory, with short and failing calls at will.
 
-ghost use Rattle.std.specs.Prelude.{◌≡◌, ℕ, ◌+◌, ◌<◌, ◌≤◌, ◌↔◌, ◌⊎◌, ◌++◌, min, List, Option, Some, length, take, drop, IfOk, OnOk, OnErr, IsErr, is_err, true};
-ghost use Rattle.std.specs.Io.KnownBytes.{ReadConsumes, WriteAppends, Keeps, IsAtEnd};
-ghost use Rattle.vortex_ipc.specs.Counts.{raised_64, raised_128, Rose, TellsEnd};
+ghost use Rattle.std.specs.Prelude.{◌≡◌, ◌+◌, ◌<◌, ◌≤◌, min, Some, length, take, drop, IfOk, IfErr, OnOk, OnErr, IsErr, is_err, true};
+ghost use Rattle.std.specs.Io.KnownBytes.{ReadConsumes, WriteAppends, Keeps};
+ghost use Rattle.vortex_ipc.specs.Counts.{counts_of_read, raised_by, with_fault, with_flush};
 ghost use Rattle.vortex_ipc.specs.InMemory.{allowed, contains, new_source, new_sink, after_read, after_write, after_flush};
 
+use crate::counts::{SinkCounts, SourceCounts};
 use crate::error::IpcError;
 use crate::sink::{Sink, SinkFailed};
 use crate::source::{Source, SourceFailed};
@@ -38,10 +39,7 @@ pub struct VecSource {
     place: usize,
     sizes: Vec<usize>,
     failing: Vec<u64>,
-    reads: u128,
-    given: u128,
-    ends: u64,
-    faults: u64,
+    counts: SourceCounts,
 }
 
 impl Model for VecSource {
@@ -54,18 +52,16 @@ impl Model for VecSource {
       rest = drop s.place s.bytes.items;
       sizes = s.sizes.items;
       failing = s.failing.items;
-      reads = s.reads;
-      given = s.given;
-      ends = s.ends;
-      faults = s.faults;
+      counts = s.counts;
     } };
 
     ghost invariant = { λ s. s.place ≤ vec_len s.bytes };
 }
 
 impl VecSource {
-    /// A source of `bytes`. Its k-th read, counted from 0, gives at most `sizes[k]` bytes, and fails where `failing`
-    /// has k. Past the list the last size holds, an empty list sets no limit, and a size of 0 counts as 1.
+    /// A source of `bytes`. Its k-th read, counted from 0, gives at most `sizes[k]` bytes, and
+    /// fails where `failing` has k. Past the list the last size holds, an empty list sets no limit,
+    /// and a size of 0 counts as 1.
     pub fn new(bytes: Vec<u8>, sizes: Vec<usize>, failing: Vec<u64>) -> VecSource
         ensures { result ≡ new_source bytes.items sizes.items failing.items }
     {
@@ -74,35 +70,41 @@ impl VecSource {
             place: 0,
             sizes,
             failing,
-            reads: 0,
-            given: 0,
-            ends: 0,
-            faults: 0,
+            counts: SourceCounts::NONE,
         }
+    }
+
+    /// What was counted so far.
+    pub fn counts(&self) -> SourceCounts
+        ensures { result ≡ self.now.counts }
+    {
+        self.counts
     }
 
     /// How many reads were made.
     pub fn read_count(&self) -> u128
-        ensures { result ≡ self.now.reads }
+        ensures { result ≡ self.now.counts.reads }
     {
-        self.reads
+        self.counts.reads
     }
 
     /// How many bytes were given.
     pub fn given_count(&self) -> u128
-        ensures { result ≡ self.now.given }
+        ensures { result ≡ self.now.counts.given }
     {
-        self.given
+        self.counts.given
     }
 
     // Gives the next bytes.
     fn give(&mut self, piece: &mut [u8]) -> usize
-        ensures count { result ≡ min (allowed self.old.sizes self.old.reads (length piece.old)) (length self.old.rest) }
+        ensures count { result
+            ≡ min (allowed self.old.sizes self.old.counts.reads (length piece.old))
+            (length self.old.rest) }
         ensures bytes { take result piece.new ≡ take result self.old.rest }
         ensures state { self.new ≡ record self.old { rest = drop result self.old.rest } }
     {
         let left = self.bytes.len() - self.place;
-        let count = allowed(&self.sizes, self.reads, piece.len()).min(left);
+        let count = allowed(&self.sizes, self.counts.reads, piece.len()).min(left);
         let end = self.place + count;
         piece[..count].copy_from_slice(&self.bytes[self.place..end]);
         self.place = end;
@@ -115,45 +117,29 @@ impl Source for VecSource {
 
     ghost rest = { λ s. Some s.rest };
 
-    ghost faults = { λ s. s.faults };
-
-    ghost ends = { λ s. s.ends };
-
-    ghost given = { λ s. s.given };
-
-    ghost reads = { λ s. s.reads };
+    ghost counts = { λ s. s.counts };
 
     fn read(&mut self, piece: &mut [u8]) -> Result<usize, SourceFailed>
-        ensures failing { is_err result ≡ contains self.old.failing self.old.reads }
+        ensures failing { is_err result ≡ contains self.old.failing self.old.counts.reads }
         ensures count { IfOk result (λ count. count
-            ≡ min (allowed self.old.sizes self.old.reads (length piece.new)) (length self.old.rest)) }
-        ensures front { IfOk result (λ count. take count piece.new ≡ take count self.old.rest) }
+            ≡ min (allowed self.old.sizes self.old.counts.reads (length piece.new))
+            (length self.old.rest)) }
+        ensures prefix { IfOk result (λ count. take count piece.new ≡ take count self.old.rest) }
         ensures state { self.new ≡ after_read self.old result (length piece.new) }
 
         // What every source promises.
         ensures bound { IfOk result (λ count. count ≤ length piece.new) }
         ensures bytes { ReadConsumes (Some self.old.rest) (Some self.new.rest) result piece.new }
-        ensures counted { self.new.reads ≡ raised_128 self.old.reads 1 }
-        ensures gave { IfOk result (λ count. self.new.given ≡ raised_128 self.old.given count) }
-        ensures gave_none { OnErr result (self.new.given ≡ self.old.given) }
-        ensures end { TellsEnd result piece.new → Rose self.old.ends self.new.ends × IsAtEnd (Some self.old.rest) }
-        ensures no_end { (TellsEnd result piece.new → ⊥) → self.new.ends ≡ self.old.ends }
-        ensures fault { OnErr result (Rose self.old.faults self.new.faults) }
-        ensures no_fault { OnOk result (self.new.faults ≡ self.old.faults) }
-        ensures later { (self.old.ends ≤ self.new.ends) × (self.old.faults ≤ self.new.faults) }
+        ensures counted { self.new.counts
+            ≡ raised_by self.old.counts (counts_of_read result (length piece.new)) }
     {
-        if fails(&self.failing, self.reads) {
-            self.reads = self.reads.saturating_add(1);
-            self.faults = self.faults.saturating_add(1);
-            return Err(SourceFailed);
-        }
-        let count = self.give(piece);
-        self.reads = self.reads.saturating_add(1);
-        self.given = self.given.saturating_add(count as u128);
-        if count == 0 && !piece.is_empty() {
-            self.ends = self.ends.saturating_add(1);
-        }
-        Ok(count)
+        let answer = if fails(&self.failing, self.counts.reads) {
+            Err(SourceFailed)
+        } else {
+            Ok(self.give(piece))
+        };
+        self.counts = self.counts.after_read(answer, piece.len());
+        answer
     }
 }
 
@@ -166,7 +152,7 @@ pub struct VecSink {
     failing: Vec<u64>,
     calls: u128,
     refused: u64,
-    faults: u64,
+    counts: SinkCounts,
 }
 
 impl Model for VecSink {
@@ -182,16 +168,16 @@ impl Model for VecSink {
       failing = s.failing.items;
       calls = s.calls;
       refused = s.refused;
-      faults = s.faults;
+      counts = s.counts;
     } };
 
     ghost invariant = { λ s. s.room ≤ vec_capacity s.bytes };
 }
 
 impl VecSink {
-    /// An empty sink. Its k-th call, writes and flushes numbered together from 0, takes at most `sizes[k]` bytes, and
-    /// fails where `failing` has k. Past the list the last size holds, an empty list sets no limit, and a size of 0
-    /// counts as 1.
+    /// An empty sink. Its k-th call, writes and flushes numbered together from 0, takes at most
+    /// `sizes[k]` bytes, and fails where `failing` has k. Past the list the last size holds, an
+    /// empty list sets no limit, and a size of 0 counts as 1.
     pub fn new(alloc: Global, sizes: Vec<usize>, failing: Vec<u64>) -> VecSink
         ensures { result ≡ new_sink 0 sizes.items failing.items }
     {
@@ -202,7 +188,7 @@ impl VecSink {
             failing,
             calls: 0,
             refused: 0,
-            faults: 0,
+            counts: SinkCounts::NONE,
         }
     }
 
@@ -213,7 +199,8 @@ impl VecSink {
         sizes: Vec<usize>,
         failing: Vec<u64>,
     ) -> Result<VecSink, IpcError>
-        ensures { IfOk result (λ sink. sink ≡ new_sink room sizes.items failing.items) }
+        ensures made { IfOk result (λ sink. sink ≡ new_sink room sizes.items failing.items) }
+        ensures memory { IfErr result (λ e. e ≡ IpcError.OutOfMemory) }
     {
         Ok(VecSink {
             bytes: Vec::with_capacity(alloc, room)?,
@@ -222,7 +209,7 @@ impl VecSink {
             failing,
             calls: 0,
             refused: 0,
-            faults: 0,
+            counts: SinkCounts::NONE,
         })
     }
 
@@ -239,6 +226,13 @@ impl VecSink {
     {
         self.refused
     }
+
+    /// What was counted so far.
+    pub fn counts(&self) -> SinkCounts
+        ensures { result ≡ self.now.counts }
+    {
+        self.counts
+    }
 }
 
 impl Sink for VecSink {
@@ -246,33 +240,35 @@ impl Sink for VecSink {
 
     ghost written = { λ s. Some s.written };
 
-    ghost faults = { λ s. s.faults };
+    ghost counts = { λ s. s.counts };
 
     fn write(&mut self, piece: &[u8]) -> Result<usize, SinkFailed>
         ensures failing { contains self.old.failing self.old.calls ≡ true → IsErr result }
-        ensures count { IfOk result (λ count. count ≡ allowed self.old.sizes self.old.calls (length piece.now)) }
+        ensures count { IfOk result (λ count. count
+            ≡ allowed self.old.sizes self.old.calls (length piece.now)) }
         ensures state { self.new ≡ after_write self.old result piece.now }
-        ensures room { length self.old.written + allowed self.old.sizes self.old.calls (length piece.now)
+        ensures room { length self.old.written
+            + allowed self.old.sizes self.old.calls (length piece.now)
             ≤ self.old.room → is_err result ≡ contains self.old.failing self.old.calls }
 
         // What every sink promises.
         ensures bound { IfOk result (λ count. count ≤ length piece.now) }
         ensures progress { IfOk result (λ count. 0 < length piece.now → 0 < count) }
-        ensures bytes { WriteAppends (Some self.old.written) (Some self.new.written) result piece.now }
-        ensures fault { OnErr result (Rose self.old.faults self.new.faults) }
-        ensures no_fault { OnOk result (self.new.faults ≡ self.old.faults) }
-        ensures later { self.old.faults ≤ self.new.faults }
+        ensures bytes { WriteAppends (Some self.old.written) (Some self.new.written)
+            result piece.now }
+        ensures fault { OnErr result (self.new.counts ≡ with_fault self.old.counts) }
+        ensures no_fault { OnOk result (self.new.counts ≡ self.old.counts) }
     {
         let call = self.calls;
         self.calls = self.calls.saturating_add(1);
         if fails(&self.failing, call) {
-            self.faults = self.faults.saturating_add(1);
+            self.counts = self.counts.with_fault();
             return Err(SinkFailed);
         }
         let count = allowed(&self.sizes, call, piece.len());
         if self.bytes.extend_from_slice(&piece[..count]).is_err() {
             self.refused = self.refused.saturating_add(1);
-            self.faults = self.faults.saturating_add(1);
+            self.counts = self.counts.with_fault();
             return Err(SinkFailed);
         }
         Ok(count)
@@ -284,16 +280,16 @@ impl Sink for VecSink {
 
         // What every sink promises.
         ensures kept { Keeps (Some self.old.written) (Some self.new.written) }
-        ensures fault { OnErr result (Rose self.old.faults self.new.faults) }
-        ensures no_fault { OnOk result (self.new.faults ≡ self.old.faults) }
-        ensures later { self.old.faults ≤ self.new.faults }
+        ensures fault { OnErr result (self.new.counts ≡ with_fault self.old.counts) }
+        ensures flushed { OnOk result (self.new.counts ≡ with_flush self.old.counts) }
     {
         let call = self.calls;
         self.calls = self.calls.saturating_add(1);
         if fails(&self.failing, call) {
-            self.faults = self.faults.saturating_add(1);
+            self.counts = self.counts.with_fault();
             return Err(SinkFailed);
         }
+        self.counts = self.counts.with_flush();
         Ok(())
     }
 }

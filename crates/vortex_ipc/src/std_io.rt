@@ -1,33 +1,30 @@
-//! Readers and writers of the standard library as sources and sinks. They tell what the reader's `remaining` and the
-//! writer's `contents` tell, which is nothing for the standard streams.
+//! Readers and writers of the standard library as sources and sinks. They tell what the reader's
+//! `remaining` and the writer's `contents` tell, which is nothing for the standard streams.
 
 ghost use Rattle.std.specs.Prelude.{◌≡◌};
+ghost use Rattle.vortex_ipc.specs.Counts.{no_sink_counts, no_source_counts};
 
+use crate::counts::{SinkCounts, SourceCounts};
 use crate::sink::{Sink, SinkFailed};
 use crate::source::{Source, SourceFailed};
 use std::io::{Read, Write};
 
-/// A reader of the standard library as a source, whose bytes still to come are those that the reader tells.
+/// A reader of the standard library as a source, whose bytes still to come are those that the
+/// reader tells.
 #[derive(Drop)]
 pub struct ReadSource<R> {
     inner: R,
-    reads: u128,
-    given: u128,
-    ends: u64,
-    faults: u64,
+    counts: SourceCounts,
 }
 
 impl<R: Read> ReadSource<R> {
     /// A source of what `inner` still has to give. What it gave before is not counted.
     pub fn new(inner: R) -> ReadSource<R>
-        ensures { result ≡ record { inner = inner; reads = 0; given = 0; ends = 0; faults = 0 } }
+        ensures { result ≡ record { inner = inner; counts = no_source_counts } }
     {
         ReadSource {
             inner,
-            reads: 0,
-            given: 0,
-            ends: 0,
-            faults: 0,
+            counts: SourceCounts::NONE,
         }
     }
 }
@@ -35,59 +32,49 @@ impl<R: Read> ReadSource<R> {
 impl<R: Read> Source for ReadSource<R> {
     ghost rest = { λ s. R.remaining s.inner };
 
-    ghost faults = { λ s. s.faults };
-
-    ghost ends = { λ s. s.ends };
-
-    ghost given = { λ s. s.given };
-
-    ghost reads = { λ s. s.reads };
+    ghost counts = { λ s. s.counts };
 
     fn read(&mut self, piece: &mut [u8]) -> Result<usize, SourceFailed> {
-        self.reads = self.reads.saturating_add(1);
-        match self.inner.read(piece) {
-            Ok(count) => {
-                if count == 0 && !piece.is_empty() {
-                    self.ends = self.ends.saturating_add(1);
-                }
-                self.given = self.given.saturating_add(count as u128);
-                Ok(count)
-            }
-            Err(_) => {
-                self.faults = self.faults.saturating_add(1);
-                Err(SourceFailed)
-            }
-        }
+        let answer = match self.inner.read(piece) {
+            Ok(count) => Ok(count),
+            Err(_) => Err(SourceFailed),
+        };
+        self.counts = self.counts.after_read(answer, piece.len());
+        answer
     }
 }
 
-/// A writer of the standard library as a sink, whose written bytes are those that the writer tells. A write that takes
-/// nothing has failed.
+/// A writer of the standard library as a sink, whose written bytes are those that the writer tells.
+/// A write that takes nothing has failed.
 #[derive(Drop)]
 pub struct WriteSink<W> {
     inner: W,
-    faults: u64,
+    counts: SinkCounts,
 }
 
 impl<W: Write> WriteSink<W> {
-    /// A sink into `inner`. Where the writer tells its bytes, those that it took before are among the written ones.
+    /// A sink into `inner`. Where the writer tells its bytes, those that it took before are among
+    /// the written ones.
     pub fn new(inner: W) -> WriteSink<W>
-        ensures { result ≡ record { inner = inner; faults = 0 } }
+        ensures { result ≡ record { inner = inner; counts = no_sink_counts } }
     {
-        WriteSink { inner, faults: 0 }
+        WriteSink {
+            inner,
+            counts: SinkCounts::NONE,
+        }
     }
 }
 
 impl<W: Write> Sink for WriteSink<W> {
     ghost written = { λ s. W.contents s.inner };
 
-    ghost faults = { λ s. s.faults };
+    ghost counts = { λ s. s.counts };
 
     fn write(&mut self, piece: &[u8]) -> Result<usize, SinkFailed> {
         match self.inner.write(piece) {
             Ok(count) if count > 0 || piece.is_empty() => Ok(count),
             _ => {
-                self.faults = self.faults.saturating_add(1);
+                self.counts = self.counts.with_fault();
                 Err(SinkFailed)
             }
         }
@@ -95,9 +82,12 @@ impl<W: Write> Sink for WriteSink<W> {
 
     fn flush(&mut self) -> Result<(), SinkFailed> {
         match self.inner.flush() {
-            Ok(()) => Ok(()),
+            Ok(()) => {
+                self.counts = self.counts.with_flush();
+                Ok(())
+            }
             Err(_) => {
-                self.faults = self.faults.saturating_add(1);
+                self.counts = self.counts.with_fault();
                 Err(SinkFailed)
             }
         }

@@ -74,6 +74,13 @@ fn a_sink_in_memory_takes_pieces_of_the_sizes(rt: HostRuntime) -> Result<(), Fai
     assert!(rt; write_all(&mut sink, b"abc").is_ok());
     assert!(rt; sink.flush().is_err(), "call 1 fails");
     assert!(rt; sink.flush().is_ok());
+    assert_eq!(rt;
+        sink.counts(),
+        SinkCounts {
+            faults: 1,
+            flushes: 1
+        }
+    );
     assert_eq!(rt; sink.written(), b"abc".as_slice());
     Ok(())
 }

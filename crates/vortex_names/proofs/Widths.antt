@@ -1,7 +1,8 @@
 -- The table of widths against its rule.
 use Rattle.std.proofs.Common.{◌≡◌, ℕ, zero, suc, ◌+◌, ◌-◌, ◌*◌, ◌^◌, ◌<◌, true, ◌&&◌, ltb, leb, List, [], ◌∷◌, length, get_or, arith, add-zero}
 use Rattle.std.proofs.lemmas.Bool.{ltb-true, leb-true, and_parts}
-use Rattle.vortex_names.specs.Decimals.{IsBitLength, are_widths}
+use Rattle.vortex_names.specs.Decimals.{IsBitLength}
+use Rattle.vortex_names.specs.inner.Widths.{are_widths}
 
 pub width_at : (p i : ℕ) (ws : List ℕ) → are_widths p ws ≡ true → i < length ws → IsBitLength (10 ^ (p + i) - 1) (get_or ws i 0)
 width_at p i [] e h = absurd (omega arith)

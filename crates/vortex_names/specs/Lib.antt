@@ -1,6 +1,6 @@
-pub mod Errors
+pub mod ErrorNumber
 pub mod Nullable
 pub mod Decimals
 pub mod Names
 pub mod Selectors
-pub mod Kept
+pub mod inner

@@ -1,4 +1,4 @@
--- Names of fields. A name is its text, and names are a list of texts.
+-- How names of fields are printed: `names_text`.
 use Rattle.std.specs.Prelude.{ℕ, List, [], ◌∷◌, ◌++◌, codes}
 use Rattle.std.specs.List.{flat_map}
 

@@ -1,7 +1,9 @@
 //! The precision and the scale of decimals.
 
-ghost use Rattle.std.specs.Prelude.{◌≡◌, ◌-◌, ◌^◌, ◌<◌, ◌≤◌, length, IsTrue, Some};
-ghost use Rattle.vortex_names.specs.Decimals.{IsDecimal, decimal_of, IsBitLength, are_widths, decimal_text};
+ghost use Rattle.std.specs.Prelude.{◌≡◌, ◌-◌, ◌^◌, ◌<◌, ◌≤◌, length, pos, IsTrue, Some};
+ghost use Rattle.vortex_terms.specs.Types.{IsDecimal};
+ghost use Rattle.vortex_names.specs.Decimals.{decimal_of, IsBitLength, decimal_text};
+ghost use Rattle.vortex_names.specs.inner.Widths.{are_widths};
 
 use crate::error::DTypeError;
 use std::fmt;
@@ -19,6 +21,14 @@ pub const DECIMAL128_MAX_SCALE: i8 = 38;
 /// The most digits behind the point of a decimal.
 pub const DECIMAL256_MAX_SCALE: i8 = 76;
 
+/// Which numbers the limits are. It does nothing when the program runs.
+pub fn decimal_limits()
+    ensures precision_128 { DECIMAL128_MAX_PRECISION ≡ 38 }
+    ensures precision_256 { DECIMAL256_MAX_PRECISION ≡ 76 }
+    ensures scale_128 { DECIMAL128_MAX_SCALE ≡ pos 38 }
+    ensures scale_256 { DECIMAL256_MAX_SCALE ≡ pos 76 }
+{}
+
 /// How many binary digits the greatest number of 1 digit, 2 digits and so on has.
 const BIT_WIDTHS: [u8; 76] = [
     4, 7, 10, 14, 17, 20, 24, 27, 30, 34, 37, 40, 44, 47, 50, 54, 57, 60, 64, 67, 70, 74, 77, 80,
@@ -35,7 +45,8 @@ pub struct DecimalDType {
 }
 
 impl Model for DecimalDType {
-    ghost use Rattle.vortex_names.specs.Decimals.{Decimal, IsDecimal};
+    ghost use Rattle.vortex_terms.specs.Types.{IsDecimal};
+    ghost use Rattle.vortex_names.specs.Decimals.{Decimal};
 
     ghost Value = { Decimal };
 
@@ -72,6 +83,14 @@ impl DecimalDType {
         ensures { result ≡ record { precision = precision; scale = scale } }
     {
         DecimalDType { precision, scale }
+    }
+
+    /// There are 1 to 76 digits, and the scale is at most their number and at least -128. It does
+    /// nothing when the program runs.
+    pub fn law(&self)
+        ensures { IsDecimal self.now.precision self.now.scale }
+    {
+        let _ = &self.precision;
     }
 
     /// How many digits there are.

@@ -60,17 +60,17 @@ pub enum DTypeError {
     /// The type is outside the limits.
     #[error("the type is too large")]
     TooLarge,
-    /// Memory ran out.
+    /// Lack of memory.
     #[error("out of memory")]
     OutOfMemory,
 }
 
 impl DTypeError {
-    ghost use Rattle.vortex_names.specs.Errors.{number_of};
+    ghost use Rattle.vortex_names.specs.ErrorNumber.{error_number};
 
     /// The number of the error, which stays the same in later versions.
     pub fn number(&self) -> u8
-        ensures { result ≡ number_of self.now }
+        ensures { result ≡ error_number self.now }
     {
         match self {
             DTypeError::PrecisionZero => 1,

@@ -4,9 +4,12 @@ ghost use Rattle.std.specs.Prelude.{◌≡◌, Some, IfOk, IsOkUnless, IsUtf8, n
 ghost use Rattle.std.proofs.Common.{rules, refl};
 ghost use Rattle.std.specs.Cmp.{partial_equiv_from_equiv};
 ghost use Rattle.std.specs.Cmp.Rules.{hashing};
-ghost use Rattle.std.specs.Cmp.Lexicographic.{pointwise, slice_cmp, nat_list_eq_equiv, nat_list_cmp_total, texts_po, texts_ties};
+ghost use Rattle.std.specs.Cmp.Lexicographic.{pointwise, slice_cmp, nat_list_eq_equiv};
+ghost use Rattle.std.specs.Cmp.Lexicographic.{nat_list_cmp_total, texts_po, texts_ties};
 ghost use Rattle.std.specs.Ordering.{nat_cmp};
 ghost use Rattle.std.specs.Hash as fed;
+ghost use Rattle.std.specs.Fmt.{decimal, debug_list, debug_str};
+ghost use Rattle.vortex_terms.specs.Types.{IsBytes};
 
 use crate::error::DTypeError;
 use std::alloc::Global;
@@ -16,7 +19,7 @@ use std::hash::{Hash, Hasher};
 use std::marker::Model;
 
 /// The id of an extension type. Contracts see it as its text.
-#[derive(Debug, Drop)]
+#[derive(Drop)]
 pub struct ExtID {
     text: String,
 }
@@ -46,6 +49,13 @@ impl ExtID {
         ensures memory { IsOkUnless result DTypeError.OutOfMemory }
     {
         ExtID::from_text(alloc, self.as_str())
+    }
+
+    /// The text is UTF-8. It does nothing when the program runs.
+    pub fn law(&self)
+        ensures { IsUtf8 self.now }
+    {
+        let _ = self.as_str();
     }
 
     /// The text.
@@ -108,8 +118,18 @@ impl Hash for ExtID {
 impl fmt::Display for ExtID {
     ghost output = { λ n. Some n };
 
+    ghost styled_output = { λ n _. Some n };
+
     fn fmt<W: fmt::Write>(&self, f: &mut fmt::Formatter<W>) -> fmt::Result {
         f.write_str(self.as_str())
+    }
+}
+
+impl fmt::Debug for ExtID {
+    ghost debug_output = { debug_str };
+
+    fn fmt<W: fmt::Write>(&self, f: &mut fmt::Formatter<W>) -> fmt::Result {
+        fmt::Debug::fmt(self.as_str(), f)
     }
 }
 
@@ -128,7 +148,7 @@ impl Model for ExtMetadata {
 }
 
 impl ExtMetadata {
-    /// These bytes.
+    /// The metadata of these bytes.
     pub fn from_slice(alloc: Global, bytes: &[u8]) -> Result<ExtMetadata, DTypeError>
         ensures metadata { IfOk result (λ m. m ≡ bytes.now) }
         ensures memory { IsOkUnless result DTypeError.OutOfMemory }
@@ -145,12 +165,26 @@ impl ExtMetadata {
         ExtMetadata::from_slice(alloc, self.as_slice())
     }
 
+    /// Each number is below 256. It does nothing when the program runs.
+    pub fn law(&self)
+        ensures { IsBytes self.now }
+    {
+        are_bytes(self.bytes.as_slice());
+    }
+
     /// The bytes.
     pub fn as_slice(&self) -> &[u8]
         ensures { result.now ≡ self.now }
     {
         self.bytes.as_slice()
     }
+}
+
+// Each element is below 256.
+fn are_bytes(bytes: &[u8])
+    ensures { IsBytes bytes.now }
+{
+    let _ = bytes.len();
 }
 
 impl PartialEq for ExtMetadata {
@@ -188,6 +222,8 @@ impl Hash for ExtMetadata {
 }
 
 impl fmt::Debug for ExtMetadata {
+    ghost debug_output = { λ m. debug_list (λ n. Some (decimal n)) m };
+
     fn fmt<W: fmt::Write>(&self, f: &mut fmt::Formatter<W>) -> fmt::Result {
         fmt::Debug::fmt(self.as_slice(), f)
     }

@@ -1,13 +1,16 @@
 //! Lists of names.
 
-ghost use Rattle.std.specs.Prelude.{◌≡◌, ◌<◌, [], length, map, slice_get, nat_eq, Some, IfOk, IfSome, IsOkUnless};
+ghost use Rattle.std.specs.Prelude.{◌≡◌, ◌<◌, [], length, map, slice_get, nat_eq, Some, IfOk};
+ghost use Rattle.std.specs.Prelude.{IfSome, IsOkUnless, IsUtf8};
 ghost use Rattle.std.specs.Option.{option_copied};
+ghost use Rattle.std.specs.List.{All};
 ghost use Rattle.std.proofs.Common.{rules};
 ghost use Rattle.std.specs.Cmp.Rules.{comparing};
 ghost use Rattle.std.specs.Cmp.Lexicographic.{pointwise, bytes_decides};
 ghost use Rattle.std.specs.Hash as fed;
 ghost use Rattle.std.specs.Iterator.{YieldsFirst, YieldsFirstRef, UpTo, at_most, item_count};
 ghost use Rattle.std.specs.Iterator.SizeHint.{IsWithinCount};
+ghost use Rattle.std.specs.Fmt.{debug_list, debug_str};
 ghost use Rattle.vortex_names.specs.Names.{names_text};
 
 use crate::error::DTypeError;
@@ -20,7 +23,7 @@ use std::ops::Index;
 use std::vec::IntoIter;
 
 /// The names of the fields of a struct, in order. Contracts see them as the list of their texts.
-#[derive(Debug, Drop)]
+#[derive(Drop)]
 pub struct FieldNames {
     // None stands for no names, since those need no allocator.
     names: Option<Vec<FieldName>>,
@@ -28,7 +31,7 @@ pub struct FieldNames {
 
 impl Model for FieldNames {
     ghost use Rattle.std.specs.Prelude.{ℕ, List};
-    ghost use Rattle.vortex_names.specs.Kept.{kept};
+    ghost use Rattle.vortex_names.specs.inner.Kept.{kept};
 
     ghost Value = { List (List ℕ) };
 
@@ -55,7 +58,7 @@ impl FieldNames {
         Ok(FieldNames { names: Some(names) })
     }
 
-    /// These names.
+    /// The list of these names.
     pub fn from_names(_alloc: Global, names: Vec<FieldName>) -> Result<FieldNames, DTypeError>
         ensures names { IfOk result (λ n. n ≡ names.items) }
         ensures memory { IsOkUnless result DTypeError.OutOfMemory }
@@ -82,6 +85,16 @@ impl FieldNames {
         match &self.names {
             Some(names) => names.as_slice(),
             None => &[],
+        }
+    }
+
+    /// Each name is UTF-8. It does nothing when the program runs.
+    pub fn law(&self)
+        ensures { All IsUtf8 self.now }
+    {
+        let names = self.as_slice();
+        for name in names {
+            name.law();
         }
     }
 
@@ -192,6 +205,14 @@ impl fmt::Display for FieldNames {
     }
 }
 
+impl fmt::Debug for FieldNames {
+    ghost debug_output = { debug_list debug_str };
+
+    fn fmt<W: fmt::Write>(&self, f: &mut fmt::Formatter<W>) -> fmt::Result {
+        fmt::Debug::fmt(self.as_slice(), f)
+    }
+}
+
 impl IntoIterator for FieldNames {
     type Item = FieldName;
 
@@ -258,7 +279,7 @@ pub struct FieldNamesIntoIter {
 
 impl Model for FieldNamesIntoIter {
     ghost use Rattle.std.specs.Prelude.{ℕ, List};
-    ghost use Rattle.vortex_names.specs.Kept.{still_kept};
+    ghost use Rattle.vortex_names.specs.inner.Kept.{still_kept};
 
     ghost Value = { List (List ℕ) };
 

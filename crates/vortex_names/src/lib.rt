@@ -11,7 +11,7 @@ mod selector;
 
 pub use decimal::{
     DECIMAL128_MAX_PRECISION, DECIMAL128_MAX_SCALE, DECIMAL256_MAX_PRECISION, DECIMAL256_MAX_SCALE,
-    DecimalDType,
+    DecimalDType, decimal_limits,
 };
 pub use error::DTypeError;
 pub use extension::{ExtID, ExtMetadata};

@@ -5,9 +5,11 @@ ghost use Rattle.std.proofs.Common.{rules, refl};
 ghost use Rattle.std.specs.String.{string_bytes};
 ghost use Rattle.std.specs.Cmp.{partial_equiv_from_equiv};
 ghost use Rattle.std.specs.Cmp.Rules.{hashing};
-ghost use Rattle.std.specs.Cmp.Lexicographic.{pointwise, slice_cmp, nat_list_eq_equiv, nat_list_cmp_total, texts_po, texts_ties};
+ghost use Rattle.std.specs.Cmp.Lexicographic.{pointwise, slice_cmp, nat_list_eq_equiv};
+ghost use Rattle.std.specs.Cmp.Lexicographic.{nat_list_cmp_total, texts_po, texts_ties};
 ghost use Rattle.std.specs.Ordering.{nat_cmp};
 ghost use Rattle.std.specs.Hash as fed;
+ghost use Rattle.std.specs.Fmt.{debug_str};
 
 use crate::error::DTypeError;
 use std::alloc::Global;
@@ -17,7 +19,7 @@ use std::hash::{Hash, Hasher};
 use std::marker::Model;
 
 /// The name of a field of a struct. Contracts see it as its text.
-#[derive(Debug, Drop)]
+#[derive(Drop)]
 pub struct FieldName {
     text: String,
 }
@@ -47,6 +49,13 @@ impl FieldName {
         ensures memory { IsOkUnless result DTypeError.OutOfMemory }
     {
         FieldName::from_text(alloc, self.as_str())
+    }
+
+    /// The text is UTF-8. It does nothing when the program runs.
+    pub fn law(&self)
+        ensures { IsUtf8 self.now }
+    {
+        let _ = self.as_str();
     }
 
     /// The text, as it is kept.
@@ -139,7 +148,17 @@ impl Hash for FieldName {
 impl fmt::Display for FieldName {
     ghost output = { λ n. Some n };
 
+    ghost styled_output = { λ n _. Some n };
+
     fn fmt<W: fmt::Write>(&self, f: &mut fmt::Formatter<W>) -> fmt::Result {
         f.write_str(self.as_str())
+    }
+}
+
+impl fmt::Debug for FieldName {
+    ghost debug_output = { debug_str };
+
+    fn fmt<W: fmt::Write>(&self, f: &mut fmt::Formatter<W>) -> fmt::Result {
+        fmt::Debug::fmt(self.as_str(), f)
     }
 }

@@ -75,6 +75,8 @@ impl From<Nullability> for bool {
 impl fmt::Display for Nullability {
     ghost output = { λ n. Some (mark n) };
 
+    ghost styled_output = { λ n _. Some (mark n) };
+
     fn fmt<W: fmt::Write>(&self, f: &mut fmt::Formatter<W>) -> fmt::Result {
         match self {
             Nullability::NonNullable => Ok(()),

@@ -67,9 +67,14 @@ impl From<FieldName> for Field {
 impl fmt::Display for Field {
     ghost output = { λ f. Some (field_text f) };
 
+    ghost styled_output = { λ f _. Some (field_text f) };
+
     fn fmt<W: fmt::Write>(&self, f: &mut fmt::Formatter<W>) -> fmt::Result {
         match self {
-            Field::Name(name) => write!(f, "${name}"),
+            Field::Name(name) => {
+                f.write_str("$")?;
+                f.write_str(name.as_str())
+            }
             Field::ElementType => f.write_str("[]"),
         }
     }

@@ -64,6 +64,7 @@ fn decimals(rt: HostRuntime) -> Result<(), Fail> {
     ];
     for (precision, scale, bits, text) in taken {
         let decimal = DecimalDType::try_new(precision, scale)?;
+        decimal.law();
         assert_eq!(rt; decimal.precision(), precision);
         assert_eq!(rt; decimal.scale(), scale);
         assert_eq!(rt; decimal.required_bit_width(), bits);
@@ -94,6 +95,8 @@ fn names(rt: HostRuntime) -> Result<(), Fail> {
     assert!(rt; b.eq_str("b"));
     assert!(rt; !b.eq_str("bb"));
     assert_eq!(rt; format!(in rt.alloc(); "{b}")?.as_str(), "b");
+    assert_eq!(rt; format!(in rt.alloc(); "{b:?}")?.as_str(), "\"b\"");
+    b.law();
     Ok(())
 }
 
@@ -103,6 +106,9 @@ fn lists_of_names(rt: HostRuntime) -> Result<(), Fail> {
     assert!(rt; none.is_empty());
     assert!(rt; none.get(0).is_none());
     assert_eq!(rt; format!(in rt.alloc(); "{none}")?.as_str(), "[]");
+    assert_eq!(rt; format!(in rt.alloc(); "{none:?}")?.as_str(), "[]");
+    let no_texts = FieldNames::from_texts(rt.alloc(), &[])?;
+    assert_eq!(rt; format!(in rt.alloc(); "{no_texts:?}")?.as_str(), "[]");
 
     let names = FieldNames::from_texts(rt.alloc(), &["a", "b"])?;
     assert_eq!(rt; names.len(), 2);
@@ -117,6 +123,11 @@ fn lists_of_names(rt: HostRuntime) -> Result<(), Fail> {
         format!(in rt.alloc(); "{names}")?.as_str(),
         "[\"a\", \"b\"]"
     );
+    assert_eq!(rt;
+        format!(in rt.alloc(); "{names:?}")?.as_str(),
+        "[\"a\", \"b\"]"
+    );
+    names.law();
     assert!(rt; names != none);
 
     let copy = names.try_clone(rt.alloc())?;
@@ -180,12 +191,14 @@ fn extensions(rt: HostRuntime) -> Result<(), Fail> {
     assert_eq!(rt; id.as_str(), "vortex.time");
     assert_eq!(rt; format!(in rt.alloc(); "{id}")?.as_str(), "vortex.time");
     assert!(rt; id == id.try_clone(rt.alloc())?);
+    id.law();
     assert!(rt; id < other);
     assert_eq!(rt; hash_of(&id), hash_of(&id.try_clone(rt.alloc())?));
 
     let metadata = ExtMetadata::from_slice(rt.alloc(), &[1, 2])?;
     assert_eq!(rt; metadata.as_slice(), [1, 2].as_slice());
     assert_eq!(rt; format!(in rt.alloc(); "{metadata:?}")?.as_str(), "[1, 2]");
+    metadata.law();
     assert!(rt; metadata == metadata.try_clone(rt.alloc())?);
     assert!(rt; metadata < ExtMetadata::from_slice(rt.alloc(), &[1, 3])?);
     assert_eq!(rt;

@@ -1,9 +1,10 @@
--- How a type holds whole numbers: in two's complement or without a sign, in so many bits.
-use Rattle.std.specs.Prelude.{ℕ, ◌^◌, ℤ, pos, negsuc, Bool, true, false, ◌&&◌, if◌then◌else◌, nat_lt, List, IsTrue, unsigned_abs, ◌≡◌, refl}
+-- How a type holds whole numbers, with a sign or without: `Format`, `fits`, `bytes_of`.
+use Rattle.std.specs.Prelude.{ℕ, ◌^◌, ℤ, pos, negsuc, Bool, true, false, ◌&&◌, if◌then◌else◌}
+use Rattle.std.specs.Prelude.{nat_lt, List}
 use Rattle.std.specs.Int.{Width, cast_unsigned, cast_signed, to_le_bytes, from_le_bytes}
-use Rattle.std.proofs.Common.{sym, true≢false}
 use mir.Val.{bits, hbits}
 
+-- a width, and whether there is a sign: in two's complement
 pub record Format : Type 0 where
   pub width : Width
   pub signed : Bool
@@ -19,7 +20,8 @@ signed w = record { width = w; signed = true }
 abbrev pub magnitude_bits : Format → ℕ
 magnitude_bits f = if f.signed then hbits f.width else bits f.width
 
--- whether a number has a place in the format: from 0, or from -2 to the power of the bits, up to below that power
+-- whether a number has a place in the format: it is below 2 to the power of the bits, and not below
+-- 0, or not below -2 to that power where there is a sign
 abbrev pub fits : Format → ℤ → Bool
 fits f (pos n) = nat_lt n (2 ^ magnitude_bits f)
 fits f (negsuc n) = f.signed && nat_lt n (2 ^ magnitude_bits f)
@@ -47,8 +49,3 @@ bytes_of f z = le_bytes f.width (bits_of f z)
 -- the number that has these bytes, the lowest first
 abbrev pub number_with_bytes : Format → List ℕ → ℤ
 number_with_bytes f bs = number_with_bits f (number_of_le_bytes f.width bs)
-
--- a number that fits without a sign is none below 0
-pub unsigned_number_law : (w : Width) (z : ℤ) → IsTrue (fits (unsigned w) z) → pos (unsigned_abs z) ≡ z
-unsigned_number_law w (pos n) h = refl
-unsigned_number_law w (negsuc n) h = absurd (true≢false (sym h))

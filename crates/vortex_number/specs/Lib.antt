@@ -1,4 +1,5 @@
+pub mod ErrorNumber
 pub mod Format
-pub mod FormatLaws
 pub mod PType
-pub mod ValueErrorNumber
+pub mod WholeKind
+pub mod inner

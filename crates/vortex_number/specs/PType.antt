@@ -1,9 +1,10 @@
--- The kinds of whole numbers that a column can hold.
+-- The kinds of whole numbers that a column can hold: `ptype_number`, `format_of`, `in_range`.
 use Rattle.std.specs.Prelude.{ℕ, ◌^◌, ◌-◌, ℤ, Bool, codes, List}
 use Rattle.std.specs.Int.{w8, w16, w32, w64, byte_len}
 use Rattle.vortex_number.specs.Format.{Format, signed, unsigned, fits, magnitude_bits}
 use Rattle.vortex_number.specs.declared.ptype.PType.{PType}
-use Rattle.vortex_number.specs.declared.ptype.PType.TheVariants.{U8, U16, U32, U64, I8, I16, I32, I64}
+use Rattle.vortex_number.specs.declared.ptype.PType.TheVariants.{U8, U16, U32, U64, I8, I16, I32}
+use Rattle.vortex_number.specs.declared.ptype.PType.TheVariants.{I64}
 
 -- the number of a kind where it is written
 abbrev pub ptype_number : PType → ℕ

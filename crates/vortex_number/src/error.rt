@@ -1,7 +1,7 @@
 //! What a call on values can refuse.
 ghost use Rattle.std.specs.Prelude.{◌≡◌};
 ghost use Rattle.vortex_number.specs.declared.error.ValueError.TheVariants.{OutOfMemory};
-ghost use Rattle.vortex_number.specs.ValueErrorNumber.{error_number};
+ghost use Rattle.vortex_number.specs.ErrorNumber.{error_number};
 
 use std::alloc::{AllocError, AllocFailed};
 use thiserror::Error;
@@ -17,7 +17,7 @@ pub enum ValueError {
 }
 
 impl ValueError {
-    /// The number of the refusal, from 1 in the order of the variants.
+    /// The number of the error, from 1 in the order of the variants.
     pub fn number(&self) -> u8
         ensures { result ≡ error_number self.now }
     {

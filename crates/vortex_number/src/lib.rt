@@ -10,5 +10,5 @@ mod whole;
 
 pub use error::ValueError;
 pub use little_endian::{ToBytes, TryFromBytes};
-pub use ptype::PType;
+pub use ptype::{PType, kinds_are_whole_kinds};
 pub use whole::WholeNumber;

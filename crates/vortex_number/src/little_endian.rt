@@ -1,5 +1,6 @@
 //! Numbers as bytes, the lowest first.
-ghost use Rattle.std.specs.Prelude.{◌≡◌, ◌==◌, ◌++◌, List, ℕ, length, MatchResult, if◌then◌else◌, Ok, Err};
+ghost use Rattle.std.specs.Prelude.{◌≡◌, ◌==◌, ◌++◌, List, ℕ, length, MatchResult, if◌then◌else◌};
+ghost use Rattle.std.specs.Prelude.{Ok, Err};
 ghost use Rattle.std.specs.Int.{w8, w16, w32, w64, w128, cast_unsigned, cast_signed};
 ghost use Rattle.vortex_number.specs.Format.{le_bytes as low_first, number_of_le_bytes};
 ghost use Rattle.vortex_number.specs.declared.error.ValueError.TheVariants.{OutOfMemory, BadLength};

@@ -1,10 +1,15 @@
 //! The kinds of whole numbers that a column can hold.
-ghost use Rattle.std.specs.Prelude.{◌≡◌, ◌*◌, ◌≤◌, true, false, not, Some, MatchOption};
+ghost use Rattle.std.specs.Prelude.{◌≡◌, ◌*◌, ◌≤◌, ◌↔◌, ℤ, true, false, not, Some, MatchOption};
+ghost use Rattle.std.specs.Prelude.{IsTrue};
 ghost use Rattle.std.specs.Ordering.{on, nat_cmp, as_partial_cmp};
 ghost use Rattle.std.specs.Cmp.{partial_order_from_own_ties};
 ghost use Rattle.std.specs.Cmp.Rules.{comparing};
 ghost use Rattle.std.proofs.Common.{rules};
-ghost use Rattle.vortex_number.specs.PType.{ptype_number, is_signed, byte_width_of, greatest, ptype_text};
+ghost use Rattle.vortex_number.specs.PType.{ptype_number, is_signed, byte_width_of, greatest};
+ghost use Rattle.vortex_number.specs.PType.{in_range, ptype_text};
+ghost use Rattle.vortex_number.specs.WholeKind.{whole_kind, ptype_of};
+ghost use Rattle.vortex_terms.specs.Fits.{InRange};
+ghost use Rattle.vortex_terms.specs.Term.{WholeKind};
 
 use std::cmp::Ordering;
 use std::fmt;
@@ -137,13 +142,22 @@ impl PType {
 impl PartialOrd for PType {
     ghost partial_cmp = { as_partial_cmp (on ptype_number nat_cmp) };
 
-    ghost laws = { partial_order_from_own_ties (Prim.search (comparing, rules)) (Prim.search (comparing, rules)) };
+    ghost laws = { partial_order_from_own_ties
+        (Prim.search (comparing, rules)) (Prim.search (comparing, rules)) };
 
     /// The order of the numbers.
     fn partial_cmp(&self, other: &PType) -> Option<Ordering> {
         self.number().partial_cmp(&other.number())
     }
 }
+
+/// The kinds are those of the terms of types, and have the same ranges. It does nothing when the
+/// program runs.
+pub fn kinds_are_whole_kinds()
+    ensures there { (p : PType) → ptype_of (whole_kind p) ≡ p }
+    ensures back { (k : WholeKind) → whole_kind (ptype_of k) ≡ k }
+    ensures range { (p : PType) (z : ℤ) → IsTrue (in_range p z) ↔ InRange (whole_kind p) z }
+{}
 
 impl fmt::Display for PType {
     ghost output = { λ kind. Some (ptype_text kind) };

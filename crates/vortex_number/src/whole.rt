@@ -1,9 +1,12 @@
 //! The whole numbers of a type, as contracts see them.
-ghost use Rattle.std.specs.Prelude.{◌≡◌, ℕ, List, ℤ, pos, unsigned_abs, IsTrue, if◌then◌else◌, Some, None, refl};
+ghost use Rattle.std.specs.Prelude.{◌≡◌, ℕ, List, ℤ, pos, unsigned_abs, IsTrue, if◌then◌else◌};
+ghost use Rattle.std.specs.Prelude.{Some, None, refl};
 ghost use Rattle.std.specs.Int.{w8, w16, w32, w64, w128, byte_len};
 ghost use Rattle.std.proofs.Common.{sym, ap, ◌∙◌};
-ghost use Rattle.vortex_number.specs.FormatLaws.{number_with_bytes-bytes_of};
-ghost use Rattle.vortex_number.specs.Format.{Format, signed, unsigned, fits, bytes_of, number_with_bytes, unsigned_number_law};
+ghost use Rattle.vortex_number.specs.inner.FormatLaws.{number_with_bytes-bytes_of};
+ghost use Rattle.vortex_number.specs.inner.FormatLaws.{unsigned_number_law};
+ghost use Rattle.vortex_number.specs.Format.{Format, signed, unsigned, fits, bytes_of};
+ghost use Rattle.vortex_number.specs.Format.{number_with_bytes};
 
 use crate::{ToBytes, TryFromBytes};
 use std::fmt::{Debug, Display};
@@ -41,11 +44,13 @@ pub trait WholeNumber: Copy + Debug + Display + ToBytes + TryFromBytes {
     ghost width_law: { Self.byte_width ≡ byte_len format.width };
 
     // A value is read from the bytes that were written of it.
-    ghost read_back_law: { (x : Self) → IsTrue (fits format (number x)) → Self.of_le_bytes (Self.le_bytes x) ≡ x } = { λ x h. sym (value_law (Self.of_le_bytes (Self.le_bytes x)))
-        ∙ ap of_number (read_law (Self.le_bytes x)
-        ∙ ap (number_with_bytes format) (written_law x)
-        ∙ number_with_bytes-bytes_of format (number x) h)
-        ∙ value_law x };
+    ghost read_back_law: { (x : Self) → IsTrue (fits format (number x))
+        → Self.of_le_bytes (Self.le_bytes x) ≡ x } = { λ x h.
+            sym (value_law (Self.of_le_bytes (Self.le_bytes x)))
+            ∙ ap of_number (read_law (Self.le_bytes x)
+            ∙ ap (number_with_bytes format) (written_law x)
+            ∙ number_with_bytes-bytes_of format (number x) h)
+            ∙ value_law x };
 }
 
 impl WholeNumber for u8 {

@@ -1,4 +1,4 @@
--- The message of a plain array that is laid out stands for its rows.
+-- The message of a primitive array that is laid out stands for its rows.
 use Rattle.std.proofs.Common.{◌≡◌, ℕ, ◌+◌, ◌-◌, ◌*◌, ◌/◌, ◌^◌, ◌<◌, ◌≤◌, Bool, true, false, cond, eqb, leb, ltb, List, [], ◌∷◌, ◌++◌, length, take, drop, Option, Some, None, refl, sym, ap, ◌∙◌, append-nil, length-append, arith}
 use Rattle.std.specs.Prelude.{codes, if◌then◌else◌}
 use Rattle.std.proofs.Math.Seq.{drop-append-add, take-length}
@@ -13,12 +13,13 @@ use Rattle.std.proofs.lemmas.List.{take_at, drop_at}
 use Rattle.std.proofs.lemmas.List.Elements.{All-cons, All-nil}
 use Rattle.std.proofs.lemmas.Nat.{from_le_bytes-to_le_bytes_4, from_le_bytes-to_le_bytes_8}
 use Rattle.vortex_flat.specs.Numbers.{little_endian, number}
-use Rattle.vortex_flat.specs.Table.{◌>>=◌, table_at, field_in}
+use Rattle.vortex_prelude.specs.Chain.{◌>>=◌}
+use Rattle.vortex_flat.specs.Table.{table_at, field_in}
 use Rattle.vortex_flat.specs.Targets.{vector_at}
 use Rattle.vortex_flat.proofs.NumbersLemmas.{spell_4, spell_8}
 use Rattle.vortex_ipc.specs.Header.{array_content, message_table_of, content_at, header_of}
 use Rattle.vortex_ipc.specs.Stream.{IsMessage}
-use Rattle.vortex_select.specs.Column.{BodyParts, padding_of, compression_of, length_of, i64_column, i64_values, body_parts, buffers_in, buffer_in, plain_node_at, plain_buffer_in, plain_buffer_of, IsPlainArray}
+use Rattle.vortex_select.specs.Column.{BodyParts, BufferDescriptor, descriptor_of, i64_column, i64_values, body_parts, buffers_in, buffer_in, primitive_node_at, primitive_buffer_in, primitive_buffer_of, IsPrimitiveArray}
 use Rattle.vortex_select.specs.Layout.{array_header, array_message, body_end}
 
 -- ---- numbers
@@ -32,23 +33,23 @@ low_8 n lt = spell_8 (to_le_bytes w64 n) refl ∙ from_le_bytes-to_le_bytes_8 n 
 -- ---- the header
 
 -- the one name
-abbrev pub plain_names : List (List ℕ)
-plain_names = codes "vortex.primitive" ∷ []
+abbrev pub primitive_names : List (List ℕ)
+primitive_names = codes "vortex.primitive" ∷ []
 
 ascii_by : (xs : List ℕ) → list_all (λ b. ltb b 128) xs ≡ true → IsAscii xs
 ascii_by [] h = IsAscii-nil
 ascii_by (x ∷ xs) h = let p = and_parts (ltb x 128) (list_all (λ b. ltb b 128) xs) h in IsAscii-cons x xs (ltb-true x 128 p.0) (ascii_by xs p.1)
 
-plain_is_text : is_utf8 (codes "vortex.primitive") ≡ true
-plain_is_text = is_utf8-from_IsUtf8 (codes "vortex.primitive") (IsUtf8-from_ascii (codes "vortex.primitive") (ascii_by (codes "vortex.primitive") refl))
+primitive_is_text : is_utf8 (codes "vortex.primitive") ≡ true
+primitive_is_text = is_utf8-from_IsUtf8 (codes "vortex.primitive") (IsUtf8-from_ascii (codes "vortex.primitive") (ascii_by (codes "vortex.primitive") refl))
 
-header_reads : (rows size : ℕ) → header_of (drop 4 (array_header rows size)) ≡ Some (record { content = array_content (little_endian (to_le_bytes w32 rows)) plain_names; body_size = little_endian (to_le_bytes w64 size) })
+header_reads : (rows size : ℕ) → header_of (drop 4 (array_header rows size)) ≡ Some (record { content = array_content (little_endian (to_le_bytes w32 rows)) primitive_names; body_size = little_endian (to_le_bytes w64 size) })
 unfolding number table_at field_in vector_at message_table_of content_at header_of
-header_reads rows size = rw plain_is_text refl
+header_reads rows size = rw primitive_is_text refl
 
-header_stands : (rows size : ℕ) → rows < 2 ^ 32 → size < 2 ^ 64 → header_of (drop 4 (array_header rows size)) ≡ Some (record { content = array_content rows plain_names; body_size = size })
+header_stands : (rows size : ℕ) → rows < 2 ^ 32 → size < 2 ^ 64 → header_of (drop 4 (array_header rows size)) ≡ Some (record { content = array_content rows primitive_names; body_size = size })
 header_stands rows size r s =
-    header_reads rows size ∙ ap (λ n. Some (record { content = array_content n plain_names; body_size = little_endian (to_le_bytes w64 size) })) (low_4 rows r) ∙ ap (λ n. Some (record { content = array_content rows plain_names; body_size = n })) (low_8 size s)
+    header_reads rows size ∙ ap (λ n. Some (record { content = array_content n primitive_names; body_size = little_endian (to_le_bytes w64 size) })) (low_4 rows r) ∙ ap (λ n. Some (record { content = array_content rows primitive_names; body_size = n })) (low_8 size s)
 
 -- ---- the body
 
@@ -93,45 +94,46 @@ parts_stand region len =
     let n : number (region ++ body_end len) (length (region ++ body_end len) - 4) 4 ≡ Some 112 = ap (λ j. number (region ++ body_end len) j 4) at ∙ number_behind region (body_end len) 112 4 ∙ end_number len in
     rw n (parts_if (leb (112 + 4) (length (region ++ body_end len))) (length (region ++ body_end len) - 4 - 112) region (body_end len) (le-leb _ _ (omega arith)) (omega arith))
 
--- the one record, of a buffer of that length
+-- the one descriptor, of a buffer of that length
 entry_is : (len : ℕ) → len < 2 ^ 32 → little_endian (0 ∷ 0 ∷ 0 ∷ 0 ∷ to_le_bytes w32 len) ≡ 2 ^ 32 * len
 entry_is len lt = let e = low_4 len lt in omega (arith, e)
 
-flat_reads : (count len : ℕ) (region : List ℕ) → plain_buffer_in count 1 (record { region = region; flat = flat_of len })
-    ≡ (buffer_in region (Some (little_endian (0 ∷ 0 ∷ 0 ∷ 0 ∷ to_le_bytes w32 len) ∷ [])) 0 >>= λ buffer. if eqb (length buffer) (8 * count) then Some buffer else None)
-unfolding number table_at field_in vector_at plain_node_at plain_buffer_in
+flat_reads : (count len : ℕ) (region : List ℕ) → primitive_buffer_in count 1 (record { region = region; flat = flat_of len })
+    ≡ (buffer_in region (Some (descriptor_of (little_endian (0 ∷ 0 ∷ 0 ∷ 0 ∷ to_le_bytes w32 len)) ∷ [])) 0 >>= λ buffer. if eqb (length buffer) (8 * count) then Some buffer else None)
+unfolding number table_at field_in vector_at primitive_node_at primitive_buffer_in
 flat_reads count len region = refl
 
-one_buffer : (region : List ℕ) → buffer_in region (Some (2 ^ 32 * length region ∷ [])) 0 ≡ Some region
+one_buffer : (region : List ℕ) → buffer_in region (Some (descriptor_of (2 ^ 32 * length region) ∷ [])) 0 ≡ Some region
 unfolding buffer_in buffers_in
 one_buffer region =
-    let none : compression_of (2 ^ 32 * length region) ≡ 0 = omega arith in
-    let before : padding_of (2 ^ 32 * length region) ≡ 0 = omega arith in
-    let long : length_of (2 ^ 32 * length region) ≡ length region = omega arith in
-    let fits : leb (padding_of (2 ^ 32 * length region) + length_of (2 ^ 32 * length region)) (length region) ≡ true = le-leb _ _ (omega arith) in
-    let whole : take (length_of (2 ^ 32 * length region)) (drop (padding_of (2 ^ 32 * length region)) region) ≡ region = rw (before, long) (take-length region) in
+    let d : BufferDescriptor = descriptor_of (2 ^ 32 * length region) in
+    let none : d.compression ≡ 0 = omega arith in
+    let before : d.padding ≡ 0 = omega arith in
+    let long : d.length ≡ length region = omega arith in
+    let fits : leb (d.padding + d.length) (length region) ≡ true = le-leb _ _ (omega arith) in
+    let whole : take d.length (drop d.padding region) ≡ region = rw (before, long) (take-length region) in
     rw (eq-eqb _ _ none, fits, whole) refl
 
 -- the buffer of a body that is laid out is its region
-pub buffer_stands : (count : ℕ) (region : List ℕ) → length region < 2 ^ 32 → length region ≡ 8 * count → plain_buffer_of count 1 (region ++ body_end (length region)) ≡ Some region
+pub buffer_stands : (count : ℕ) (region : List ℕ) → length region < 2 ^ 32 → length region ≡ 8 * count → primitive_buffer_of count 1 (region ++ body_end (length region)) ≡ Some region
 buffer_stands count region lt e =
-    ap (λ parts. parts >>= plain_buffer_in count 1) (parts_stand region (length region)) ∙ flat_reads count (length region) region
-    ∙ ap (λ n. buffer_in region (Some (n ∷ [])) 0 >>= λ buffer. if eqb (length buffer) (8 * count) then Some buffer else None) (entry_is (length region) lt)
+    ap (λ parts. parts >>= primitive_buffer_in count 1) (parts_stand region (length region)) ∙ flat_reads count (length region) region
+    ∙ ap (λ n. buffer_in region (Some (descriptor_of n ∷ [])) 0 >>= λ buffer. if eqb (length buffer) (8 * count) then Some buffer else None) (entry_is (length region) lt)
     ∙ ap (λ (o : Option (List ℕ)). o >>= λ buffer. if eqb (length buffer) (8 * count) then Some buffer else None) (one_buffer region)
     ∙ ap (λ b. cond b (Some region) None) (eq-eqb (length region) (8 * count) e)
 
 -- ---- the message
 
 pub record ArrayStands (region : List ℕ) (count : ℕ) : Type 0 where
-  pub message : IsMessage (array_message region) (array_content count plain_names) (region ++ body_end (length region)) []
-  pub array : IsPlainArray i64_column count plain_names (region ++ body_end (length region)) (i64_values count region)
+  pub message : IsMessage (array_message region) (array_content count primitive_names) (region ++ body_end (length region)) []
+  pub array : IsPrimitiveArray i64_column count primitive_names (region ++ body_end (length region)) (i64_values count region)
 
 pub array_stands : (region : List ℕ) (count : ℕ) → length region < 2 ^ 32 → length region ≡ 8 * count → ArrayStands region count
 array_stands region count lt e =
     let rows : length region / 8 ≡ count = omega arith in
     let size : length (region ++ body_end (length region)) ≡ length region + 116 = length-append region (body_end (length region)) in
-    let header : header_of (drop 4 (array_header (length region / 8) (length region + 116))) ≡ Some (record { content = array_content count plain_names; body_size = length (region ++ body_end (length region)) }) =
-    header_stands (length region / 8) (length region + 116) (omega arith) (omega arith) ∙ ap (λ n. Some (record { content = array_content n plain_names; body_size = length region + 116 })) rows ∙ ap (λ n. Some (record { content = array_content count plain_names; body_size = n })) (sym size) in
+    let header : header_of (drop 4 (array_header (length region / 8) (length region + 116))) ≡ Some (record { content = array_content count primitive_names; body_size = length (region ++ body_end (length region)) }) =
+    header_stands (length region / 8) (length region + 116) (omega arith) (omega arith) ∙ ap (λ n. Some (record { content = array_content n primitive_names; body_size = length region + 116 })) rows ∙ ap (λ n. Some (record { content = array_content count primitive_names; body_size = n })) (sym size) in
     record {
       message = record {
         prefix = take 4 (array_header (length region / 8) (length region + 116));
@@ -142,7 +144,7 @@ array_stands region count lt e =
         header_is = header;
       };
       array = record {
-        plain = All-cons (λ name. name ≡ codes "vortex.primitive") (codes "vortex.primitive") [] refl (All-nil (λ name. name ≡ codes "vortex.primitive"));
+        names_are = All-cons (λ name. name ≡ codes "vortex.primitive") (codes "vortex.primitive") [] refl (All-nil (λ name. name ≡ codes "vortex.primitive"));
         rows_are = ap (option_map (i64_values count)) (buffer_stands count region lt e);
       };
     }

@@ -1,4 +1,4 @@
--- What is a stream of the column type and of plain arrays, the readers find.
+-- What is a stream of the column type and of primitive arrays, the readers find.
 use Rattle.std.proofs.Common.{◌≡◌, ℕ, ◌+◌, ◌*◌, ◌<◌, Bool, true, false, cond, eqb, leb, List, [], ◌∷◌, ◌++◌, length, take, drop, All, Option, Some, None, ℤ, refl, sym, ap, subst, ◌∙◌, append_assoc, length-append, arith}
 use Rattle.std.specs.Prelude.{codes}
 use Rattle.std.specs.Option.{option_map}
@@ -7,13 +7,14 @@ use Rattle.std.proofs.lemmas.Bool.{le-leb}
 use Rattle.std.proofs.lemmas.List.{take_at, drop_at}
 use Rattle.std.proofs.lemmas.List.Elements.{recursion_from_All}
 use Rattle.vortex_flat.specs.Numbers.{little_endian, number}
-use Rattle.vortex_flat.specs.Table.{◌>>=◌}
-use Rattle.vortex_flat.specs.Targets.{number_field, vector_field}
+use Rattle.vortex_prelude.specs.Chain.{◌>>=◌}
+use Rattle.vortex_flat.specs.Targets.{number_field}
 use Rattle.vortex_flat.proofs.TableLemmas.{bind_some}
-use Rattle.vortex_ipc.specs.Header.{Content, array_content, buffer_content, type_content, Header, MessageTable, message_table_of, or_zero, names_in, content_at, header_of}
+use Rattle.vortex_prelude.specs.Absent.{or_zero}
+use Rattle.vortex_ipc.specs.Header.{Content, array_content, buffer_content, type_content, Header, MessageTable, message_table_of, content_at, header_of}
 use Rattle.vortex_ipc.specs.Stream.{IsMessage, AreArrays}
-use Rattle.vortex_select.specs.Column.{ColumnType, i64_column, i64_values, column_type_of, body_parts, plain_buffer_in, plain_buffer_of, IsPlainArray}
-use Rattle.vortex_select.specs.Decoding.{front_of, prefixed_of, type_size_of, after_type_of, is_plain, plain_count, plain_header_of, plain_array_of}
+use Rattle.vortex_select.specs.Column.{ColumnType, i64_column, i64_values, column_type_of, body_parts, primitive_buffer_in, primitive_buffer_of, IsPrimitiveArray}
+use Rattle.vortex_select.specs.inner.Decoding.{names_at, prefix_of, length_prefixed_of, type_size_of, after_type_of, is_primitive, primitive_count, primitive_header_of, primitive_array_of}
 use Rattle.vortex_select.specs.Theorem.{IsColumnStream, IsSomeStream}
 use Rattle.vortex_select.proofs.ArrayFound.{buffer_len}
 use lib.Pointwise.{bytes_decides}
@@ -21,8 +22,8 @@ use lib.Pointwise.{bytes_decides}
 -- ---- messages
 
 -- the bytes fall into x and rest
-front_there : (bytes x rest : List ℕ) → bytes ≡ x ++ rest → front_of (length x) bytes ≡ Some (x, rest)
-front_there bytes x rest e =
+prefix_there : (bytes x rest : List ℕ) → bytes ≡ x ++ rest → prefix_of (length x) bytes ≡ Some (x, rest)
+prefix_there bytes x rest e =
     let front : take (length x) bytes ≡ x = ap (take (length x)) e ∙ take_at x rest (length x) refl in
     let back : drop (length x) bytes ≡ rest = ap (drop (length x)) e ∙ drop_at x rest (length x) refl in
     let fits : leb (length x) (length bytes) ≡ true = le-leb _ _ (omega (arith, ap length e, length-append x rest)) in
@@ -35,19 +36,19 @@ number_there bytes prefix rest e four =
     let fits : leb (0 + 4) (length bytes) ≡ true = le-leb _ _ (omega (arith, ap length e, length-append prefix rest)) in
     rw (fits, front) refl
 
-prefixed_there : (bytes prefix x rest : List ℕ) → bytes ≡ prefix ++ (x ++ rest) → length prefix ≡ 4 → little_endian prefix ≡ length x → prefixed_of bytes ≡ Some (x, rest)
-unfolding prefixed_of
-prefixed_there bytes prefix x rest e four len =
+length_prefixed_there : (bytes prefix x rest : List ℕ) → bytes ≡ prefix ++ (x ++ rest) → length prefix ≡ 4 → little_endian prefix ≡ length x → length_prefixed_of bytes ≡ Some (x, rest)
+unfolding length_prefixed_of
+length_prefixed_there bytes prefix x rest e four len =
     let n : number bytes 0 4 ≡ Some (length x) = number_there bytes prefix (x ++ rest) e four ∙ ap Some len in
     let behind : drop 4 bytes ≡ x ++ rest = ap (drop 4) e ∙ drop_at prefix (x ++ rest) 4 four in
-    ap (λ (o : Option ℕ). o >>= λ len. front_of len (drop 4 bytes)) n ∙ front_there (drop 4 bytes) x rest behind
+    ap (λ (o : Option ℕ). o >>= λ len. prefix_of len (drop 4 bytes)) n ∙ prefix_there (drop 4 bytes) x rest behind
 
 -- the parts of a message, from the right
 grouped : (a b c d : List ℕ) → a ++ b ++ c ++ d ≡ a ++ (b ++ (c ++ d))
 grouped a b c d = simp append_assoc
 
-message_there : (bytes body rest : List ℕ) (content : Content) → (m : IsMessage bytes content body rest) → prefixed_of bytes ≡ Some (m.header, body ++ rest)
-message_there bytes body rest content m = prefixed_there bytes m.prefix m.header (body ++ rest) (m.parts ∙ grouped m.prefix m.header body rest) m.prefix_len m.header_len
+message_there : (bytes body rest : List ℕ) (content : Content) → (m : IsMessage bytes content body rest) → length_prefixed_of bytes ≡ Some (m.header, body ++ rest)
+message_there bytes body rest content m = length_prefixed_there bytes m.prefix m.header (body ++ rest) (m.parts ∙ grouped m.prefix m.header body rest) m.prefix_len m.header_len
 
 -- ---- headers
 
@@ -86,11 +87,11 @@ array_parts (Some r) (Some n) rows names e = (cc, cc)
 
 type_kind : (header : List ℕ) (inner kind : ℕ) → content_at header inner kind ≡ Some type_content → eqb kind 3 ≡ true
 unfolding content_at
-type_kind header inner kind e = third_of (eqb kind 1) (eqb kind 2) (eqb kind 3) (array_if (or_zero (number_field header inner 0 4)) (names_in header (vector_field header inner 1 4))) (option_map buffer_content (or_zero (number_field header inner 0 1))) (no_type_of_array _ _) (no_type_of_buffer _) e
+type_kind header inner kind e = third_of (eqb kind 1) (eqb kind 2) (eqb kind 3) (array_if (or_zero (number_field header inner 0 4)) (names_at header inner)) (option_map buffer_content (or_zero (number_field header inner 0 1))) (no_type_of_array _ _) (no_type_of_buffer _) e
 
-array_kind : (header : List ℕ) (inner kind rows : ℕ) (names : List (List ℕ)) → content_at header inner kind ≡ Some (array_content rows names) → (eqb kind 1 ≡ true) × (array_if (or_zero (number_field header inner 0 4)) (names_in header (vector_field header inner 1 4)) ≡ Some (array_content rows names))
+array_kind : (header : List ℕ) (inner kind rows : ℕ) (names : List (List ℕ)) → content_at header inner kind ≡ Some (array_content rows names) → (eqb kind 1 ≡ true) × (array_if (or_zero (number_field header inner 0 4)) (names_at header inner) ≡ Some (array_content rows names))
 unfolding content_at
-array_kind header inner kind rows names e = first_of (eqb kind 1) (eqb kind 2) (eqb kind 3) (array_if (or_zero (number_field header inner 0 4)) (names_in header (vector_field header inner 1 4))) (option_map buffer_content (or_zero (number_field header inner 0 1))) rows names (no_array_of_buffer _ rows names) e
+array_kind header inner kind rows names e = first_of (eqb kind 1) (eqb kind 2) (eqb kind 3) (array_if (or_zero (number_field header inner 0 4)) (names_at header inner)) (option_map buffer_content (or_zero (number_field header inner 0 1))) rows names (no_array_of_buffer _ rows names) e
 
 -- what a header stands for, by its table
 record ByTable (header : List ℕ) (content : Content) (size : ℕ) : Type 0 where
@@ -120,32 +121,32 @@ type_size_there header size e =
 -- what follows the message of the type
 pub after_type_there : (bytes body rest : List ℕ) (t : ColumnType) → IsMessage bytes type_content body rest → column_type_of body ≡ Some t → after_type_of bytes ≡ Some rest
 unfolding after_type_of
-after_type_there bytes body rest t m column = rw (message_there bytes body rest type_content m, type_size_there m.header (length body) m.header_is, front_there (body ++ rest) body rest refl, column) refl
+after_type_there bytes body rest t m column = rw (message_there bytes body rest type_content m, type_size_there m.header (length body) m.header_is, prefix_there (body ++ rest) body rest refl, column) refl
 
-each_plain : (names : List (List ℕ)) → AllByRecursion (λ name. name ≡ codes "vortex.primitive") names → list_all is_plain names ≡ true
-each_plain [] h = refl
-each_plain (x ∷ xs) h = rw ((bytes_decides x (codes "vortex.primitive")).1 h.0) (each_plain xs h.1)
+each_primitive : (names : List (List ℕ)) → AllByRecursion (λ name. name ≡ codes "vortex.primitive") names → list_all is_primitive names ≡ true
+each_primitive [] h = refl
+each_primitive (x ∷ xs) h = rw ((bytes_decides x (codes "vortex.primitive")).1 h.0) (each_primitive xs h.1)
 
-count_there : (names : List (List ℕ)) → All (λ name. name ≡ codes "vortex.primitive") names → plain_count (Some names) ≡ Some (length names)
-unfolding plain_count
-count_there names h = rw (each_plain names (recursion_from_All (λ name. name ≡ codes "vortex.primitive") names h)) refl
+count_there : (names : List (List ℕ)) → All (λ name. name ≡ codes "vortex.primitive") names → primitive_count (Some names) ≡ Some (length names)
+unfolding primitive_count
+count_there names h = rw (each_primitive names (recursion_from_All (λ name. name ≡ codes "vortex.primitive") names h)) refl
 
-plain_header_there : (header : List ℕ) (rows size : ℕ) (names : List (List ℕ)) → header_of header ≡ Some (record { content = array_content rows names; body_size = size }) → All (λ name. name ≡ codes "vortex.primitive") names
-    → plain_header_of header ≡ Some (record { rows = rows; names = length names; body_size = size })
-unfolding plain_header_of
-plain_header_there header rows size names e h =
+primitive_header_there : (header : List ℕ) (rows size : ℕ) (names : List (List ℕ)) → header_of header ≡ Some (record { content = array_content rows names; body_size = size }) → All (λ name. name ≡ codes "vortex.primitive") names
+    → primitive_header_of header ≡ Some (record { rows = rows; names = length names; body_size = size })
+unfolding primitive_header_of
+primitive_header_there header rows size names e h =
     let b = by_table header (array_content rows names) size e in
     let k = array_kind header b.table.inner b.table.kind rows names b.content_is in
-    let p = array_parts (or_zero (number_field header b.table.inner 0 4)) (names_in header (vector_field header b.table.inner 1 4)) rows names k.1 in
+    let p = array_parts (or_zero (number_field header b.table.inner 0 4)) (names_at header b.table.inner) rows names k.1 in
     rw (b.table_is, p.0, p.1, count_there names h, k.0, b.size_is) refl
 
 -- ---- arrays
 
--- a message of a plain array is found, and its buffer is its rows
+-- a message of a primitive array is found, and its buffer is its rows
 pub record ArrayThere (bytes rest : List ℕ) (rows : List ℤ) : Type 0 where
   pub buffer : List ℕ
   pub count : ℕ
-  pub found : plain_array_of bytes ≡ Some (buffer, rest)
+  pub found : primitive_array_of bytes ≡ Some (buffer, rest)
   pub values : rows ≡ i64_values count buffer
   pub len : length buffer ≡ 8 * count
 
@@ -153,26 +154,26 @@ mapped : {A B : Type 0} (f : A → B) (o : Option A) (y : B) → option_map f o 
 mapped f None y e = absurd cc
 mapped f (Some x) y e = (x, refl, cc)
 
-found_by : (bytes header body rest buffer : List ℕ) (count names : ℕ) → prefixed_of bytes ≡ Some (header, body ++ rest) → plain_header_of header ≡ Some (record { rows = count; names = names; body_size = length body })
-    → plain_buffer_of count names body ≡ Some buffer → plain_array_of bytes ≡ Some (buffer, rest)
-unfolding plain_array_of
-found_by bytes header body rest buffer count names m h b = rw (m, h, front_there (body ++ rest) body rest refl, b) refl
+found_by : (bytes header body rest buffer : List ℕ) (count names : ℕ) → length_prefixed_of bytes ≡ Some (header, body ++ rest) → primitive_header_of header ≡ Some (record { rows = count; names = names; body_size = length body })
+    → primitive_buffer_of count names body ≡ Some buffer → primitive_array_of bytes ≡ Some (buffer, rest)
+unfolding primitive_array_of
+found_by bytes header body rest buffer count names m h b = rw (m, h, prefix_there (body ++ rest) body rest refl, b) refl
 
-pub array_there : (bytes : List ℕ) (count : ℕ) (names : List (List ℕ)) (body rest : List ℕ) (rows : List ℤ) → IsMessage bytes (array_content count names) body rest → IsPlainArray i64_column count names body rows → ArrayThere bytes rest rows
+pub array_there : (bytes : List ℕ) (count : ℕ) (names : List (List ℕ)) (body rest : List ℕ) (rows : List ℤ) → IsMessage bytes (array_content count names) body rest → IsPrimitiveArray i64_column count names body rows → ArrayThere bytes rest rows
 array_there bytes count names body rest rows m h =
-    let b = mapped (i64_values count) (plain_buffer_of count (length names) body) rows h.rows_are in
-    let parts = bind_some (body_parts body) (plain_buffer_in count (length names)) b.0 b.1 in
+    let b = mapped (i64_values count) (primitive_buffer_of count (length names) body) rows h.rows_are in
+    let parts = bind_some (body_parts body) (primitive_buffer_in count (length names)) b.0 b.1 in
     record {
       buffer = b.0;
       count = count;
-      found = found_by bytes m.header body rest b.0 count (length names) (message_there bytes body rest (array_content count names) m) (plain_header_there m.header count (length body) names m.header_is h.plain) b.1;
+      found = found_by bytes m.header body rest b.0 count (length names) (message_there bytes body rest (array_content count names) m) (primitive_header_there m.header count (length body) names m.header_is h.names_are) b.1;
       values = b.2;
       len = buffer_len count (length names) parts.0 b.0 parts.2;
     }
 
--- the bytes are messages of plain arrays, and nothing else
-abbrev pub ArePlainArrays : List ℕ → Type 0
-ArePlainArrays bytes = (arrays : List (List ℤ)) × AreArrays IsPlainArray i64_column bytes arrays
+-- the bytes are messages of primitive arrays, and nothing else
+abbrev pub ArePrimitiveArrays : List ℕ → Type 0
+ArePrimitiveArrays bytes = (arrays : List (List ℤ)) × AreArrays IsPrimitiveArray i64_column bytes arrays
 
 none_is_not_some : {A : Type 0} (o : Option A) (x : A) → o ≡ None → o ≡ Some x → ⊥
 none_is_not_some None x e h = cc
@@ -182,25 +183,25 @@ some_same : {A : Type 0} (o : Option A) (x y : A) → o ≡ Some x → o ≡ Som
 some_same None x y e h = absurd cc
 some_same (Some z) x y e h = cc
 
-behind_first : (bytes : List ℕ) (p : List ℕ × List ℕ) (arrays : List (List ℤ)) → 0 < length bytes → plain_array_of bytes ≡ Some p → AreArrays IsPlainArray i64_column bytes arrays → ArePlainArrays p.1
+behind_first : (bytes : List ℕ) (p : List ℕ × List ℕ) (arrays : List (List ℤ)) → 0 < length bytes → primitive_array_of bytes ≡ Some p → AreArrays IsPrimitiveArray i64_column bytes arrays → ArePrimitiveArrays p.1
 behind_first bytes p [] some found h = absurd (omega (arith, ap length h))
 behind_first bytes p (rows ∷ arrays) some found h =
     let a = array_there bytes h.0 h.1 h.2 h.3 rows h.4 h.5 in
-    let same : (a.buffer, h.3) ≡ p = some_same (plain_array_of bytes) (a.buffer, h.3) p a.found found in
-    (arrays, subst (λ (q : List ℕ × List ℕ). AreArrays IsPlainArray i64_column q.1 arrays) same h.6)
+    let same : (a.buffer, h.3) ≡ p = some_same (primitive_array_of bytes) (a.buffer, h.3) p a.found found in
+    (arrays, subst (λ (q : List ℕ × List ℕ). AreArrays IsPrimitiveArray i64_column q.1 arrays) same h.6)
 
 -- behind the first array stand arrays again
-pub arrays_behind : (bytes : List ℕ) (p : List ℕ × List ℕ) → 0 < length bytes → plain_array_of bytes ≡ Some p → ArePlainArrays bytes → ArePlainArrays p.1
+pub arrays_behind : (bytes : List ℕ) (p : List ℕ × List ℕ) → 0 < length bytes → primitive_array_of bytes ≡ Some p → ArePrimitiveArrays bytes → ArePrimitiveArrays p.1
 arrays_behind bytes p some found h = behind_first bytes p h.0 some found h.1
 
-none_first : (bytes : List ℕ) (arrays : List (List ℤ)) → 0 < length bytes → plain_array_of bytes ≡ None → AreArrays IsPlainArray i64_column bytes arrays → ⊥
+none_first : (bytes : List ℕ) (arrays : List (List ℤ)) → 0 < length bytes → primitive_array_of bytes ≡ None → AreArrays IsPrimitiveArray i64_column bytes arrays → ⊥
 none_first bytes [] some none h = omega (arith, ap length h)
 none_first bytes (rows ∷ arrays) some none h =
     let a = array_there bytes h.0 h.1 h.2 h.3 rows h.4 h.5 in
-    none_is_not_some (plain_array_of bytes) (a.buffer, h.3) none a.found
+    none_is_not_some (primitive_array_of bytes) (a.buffer, h.3) none a.found
 
 -- where no array is found, no arrays stand
-pub no_arrays : (bytes : List ℕ) → 0 < length bytes → plain_array_of bytes ≡ None → ArePlainArrays bytes → ⊥
+pub no_arrays : (bytes : List ℕ) → 0 < length bytes → primitive_array_of bytes ≡ None → ArePrimitiveArrays bytes → ⊥
 no_arrays bytes some none h = none_first bytes h.0 some none h.1
 
 -- ---- streams
@@ -213,12 +214,12 @@ pub no_type : (bytes : List ℕ) → after_type_of bytes ≡ None → IsSomeStre
 no_type bytes none h = none_is_not_some (after_type_of bytes) h.2.rest none (after_type_there bytes h.2.body h.2.rest h.0 h.2.message h.2.is_type)
 
 -- behind the type of a stream stand its arrays
-its_arrays : (bytes start : List ℕ) (t : ColumnType) (arrays : List (List ℤ)) → after_type_of bytes ≡ Some start → IsColumnStream bytes t arrays → AreArrays IsPlainArray i64_column start arrays
+its_arrays : (bytes start : List ℕ) (t : ColumnType) (arrays : List (List ℤ)) → after_type_of bytes ≡ Some start → IsColumnStream bytes t arrays → AreArrays IsPrimitiveArray i64_column start arrays
 its_arrays bytes start t arrays found s =
     let same : s.rest ≡ start = some_same (after_type_of bytes) s.rest start (after_type_there bytes s.body s.rest t s.message s.is_type) found in
-    subst (λ (l : List ℕ). AreArrays IsPlainArray i64_column l arrays) same (subst (λ t. AreArrays IsPlainArray t s.rest arrays) (only_column t) s.are_arrays)
+    subst (λ (l : List ℕ). AreArrays IsPrimitiveArray i64_column l arrays) same (subst (λ t. AreArrays IsPrimitiveArray t s.rest arrays) (only_column t) s.are_arrays)
 
-pub stream_arrays : (bytes start : List ℕ) → after_type_of bytes ≡ Some start → IsSomeStream bytes → ArePlainArrays start
+pub stream_arrays : (bytes start : List ℕ) → after_type_of bytes ≡ Some start → IsSomeStream bytes → ArePrimitiveArrays start
 stream_arrays bytes start found h = (h.1, its_arrays bytes start h.0 h.1 found h.2)
 
 -- ---- at most one meaning
@@ -226,7 +227,7 @@ stream_arrays bytes start found h = (h.1, its_arrays bytes start h.0 h.1 found h
 no_first : (bytes body rest : List ℕ) (content : Content) → bytes ≡ [] → IsMessage bytes content body rest → ⊥
 no_first bytes body rest content e m = omega (arith, ap length (sym e ∙ m.parts ∙ grouped m.prefix m.header body rest), length-append m.prefix (m.header ++ (body ++ rest)), m.prefix_len)
 
-arrays_same : (bytes : List ℕ) (a b : List (List ℤ)) → AreArrays IsPlainArray i64_column bytes a → AreArrays IsPlainArray i64_column bytes b → a ≡ b
+arrays_same : (bytes : List ℕ) (a b : List (List ℤ)) → AreArrays IsPrimitiveArray i64_column bytes a → AreArrays IsPrimitiveArray i64_column bytes b → a ≡ b
 arrays_same bytes [] [] h k = refl
 arrays_same bytes [] (s ∷ b) h k = absurd (no_first bytes k.2 k.3 (array_content k.0 k.1) h k.4)
 arrays_same bytes (r ∷ a) [] h k = absurd (no_first bytes h.2 h.3 (array_content h.0 h.1) k h.4)
@@ -235,12 +236,12 @@ arrays_same bytes (r ∷ a) (s ∷ b) h k =
     let y = array_there bytes k.0 k.1 k.2 k.3 s k.4 k.5 in
     let first : List ℕ × List ℕ = (x.buffer, h.3) in
     let second : List ℕ × List ℕ = (y.buffer, k.3) in
-    let same : first ≡ second = some_same (plain_array_of bytes) (x.buffer, h.3) (y.buffer, k.3) x.found y.found in
+    let same : first ≡ second = some_same (primitive_array_of bytes) (x.buffer, h.3) (y.buffer, k.3) x.found y.found in
     let buffer : x.buffer ≡ y.buffer = ap (λ (q : List ℕ × List ℕ). q.0) same in
     let rest : h.3 ≡ k.3 = ap (λ (q : List ℕ × List ℕ). q.1) same in
     let count : x.count ≡ y.count = omega (arith, x.len, y.len, ap length buffer) in
     let rows : r ≡ s = x.values ∙ ap (λ n. i64_values n x.buffer) count ∙ ap (i64_values y.count) buffer ∙ sym y.values in
-    let others : a ≡ b = arrays_same h.3 a b h.6 (subst (λ (l : List ℕ). AreArrays IsPlainArray i64_column l b) (sym rest) k.6) in
+    let others : a ≡ b = arrays_same h.3 a b h.6 (subst (λ (l : List ℕ). AreArrays IsPrimitiveArray i64_column l b) (sym rest) k.6) in
     ap (λ (l : List ℤ). l ∷ a) rows ∙ ap (λ (l : List (List ℤ)). s ∷ l) others
 
 -- bytes stand for one type and one list of arrays at most

@@ -7,9 +7,10 @@ use Rattle.std.specs.List.{flat_map}
 use Rattle.std.specs.Simd.{first_chunks}
 use Rattle.std.specs.Ordering.{int_cmp}
 use Rattle.vortex_select.specs.Column.{i64_value, i64_values}
-use Rattle.vortex_select.specs.Selection.{bears}
-use Rattle.vortex_select.specs.Layout.{array_header, array_message, body_end, keeps, kept_region}
-use Rattle.vortex_select.specs.declared.selection.Query.{Query}
+use Rattle.vortex_value.specs.Operator.{bears}
+use Rattle.vortex_select.specs.Layout.{array_header, array_message, body_end}
+use Rattle.vortex_select.specs.inner.KeptRows.{keeps, kept_region}
+use Rattle.vortex_select.specs.declared.words.Query.{Query}
 
 -- one more row: it is put at the end of the block, which then ends behind it where it is kept
 pub keep_more : (p : List ℕ → Bool) (xs block : List (List ℕ)) (i n k : ℕ) (b : Bool) → k ≡ from_bool b → p (get_or xs i []) ≡ b → i < length xs → n < length block

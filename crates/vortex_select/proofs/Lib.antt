@@ -2,8 +2,7 @@ pub mod WordsLemmas
 pub mod Framing
 pub mod TypeMessage
 pub mod SelectionLemmas
-pub mod PlainLoops
-pub mod Fields
+pub mod PrimitiveLoops
 pub mod Laying
 pub mod KeptRows
 pub mod ArrayMessage

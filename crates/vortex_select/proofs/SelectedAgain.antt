@@ -9,10 +9,11 @@ use Rattle.std.proofs.lemmas.List.{nil_from_length, length-map}
 use Rattle.std.proofs.lemmas.List.Elements.{recursion_from_All}
 use Rattle.vortex_select.specs.Column.{i64_value, i64_values}
 use Rattle.vortex_select.specs.Layout.{type_message, array_header, body_end, array_message, AreLaidOut, IsLaidOut}
-use Rattle.vortex_select.specs.Selection.{bears, selected, counts_of}
+use Rattle.vortex_value.specs.Operator.{bears}
+use Rattle.vortex_select.specs.Selection.{selected, counts_of}
 use Rattle.vortex_select.specs.Theorem.{Selects}
-use Rattle.vortex_select.specs.declared.report.Counts.{Counts}
-use Rattle.vortex_select.specs.declared.selection.Query.{Query}
+use Rattle.vortex_select.specs.declared.report.RowCounts.{RowCounts}
+use Rattle.vortex_select.specs.declared.words.Query.{Query}
 use Rattle.vortex_select.proofs.Complete.{one_meaning}
 
 -- ---- one spelling
@@ -92,7 +93,7 @@ selected_twice query (rows ∷ arrays) =
     ap (λ (l : List ℤ). l ∷ selected query (selected query arrays)) (filter_twice p rows) ∙ ap (λ (l : List (List ℤ)). filter p rows ∷ l) (selected_twice query arrays)
 
 -- the same selection again
-pub again : (query : Query) (input output more : List ℕ) (first second : Counts) → Selects query input output first → Selects query output more second
+pub again : (query : Query) (input output more : List ℕ) (first second : RowCounts) → Selects query input output first → Selects query output more second
     → All (λ n. n < 256) output → All (λ n. n < 256) more → (more ≡ output) × (second.arrays ≡ first.arrays) × (second.read ≡ first.kept) × (second.kept ≡ first.kept)
 again query input output more first second h k ba bb =
     let kept = selected query h.arrays in
@@ -102,7 +103,7 @@ again query input output more first second h k ba bb =
     let laid_out : IsLaidOut more kept = subst (IsLaidOut more) twice k.laid_out in
     let as_many : length kept ≡ length h.arrays = length-map h.arrays (filter (λ row. bears query.operator (int_cmp row query.constant))) in (
       same_output more output kept bb ba laid_out h.laid_out,
-      ap (λ (c : Counts). c.arrays) counts ∙ as_many ∙ sym (ap (λ (c : Counts). c.arrays) h.counts_are),
-      ap (λ (c : Counts). c.read) counts ∙ sym (ap (λ (c : Counts). c.kept) h.counts_are),
-      ap (λ (c : Counts). c.kept) counts ∙ sym (ap (λ (c : Counts). c.kept) h.counts_are),
+      ap (λ (c : RowCounts). c.arrays) counts ∙ as_many ∙ sym (ap (λ (c : RowCounts). c.arrays) h.counts_are),
+      ap (λ (c : RowCounts). c.read) counts ∙ sym (ap (λ (c : RowCounts). c.kept) h.counts_are),
+      ap (λ (c : RowCounts). c.kept) counts ∙ sym (ap (λ (c : RowCounts). c.kept) h.counts_are),
     )

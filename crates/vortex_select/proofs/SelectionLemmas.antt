@@ -9,43 +9,45 @@ use Rattle.vortex_ipc.specs.Header.{Content, array_content, type_content}
 use Rattle.vortex_ipc.specs.Stream.{IsMessage, AreArrays}
 use Rattle.vortex_ipc.proofs.StreamLemmas.{message_bytes, message_append, arrays_append, one_array}
 use Rattle.std.specs.Io.KnownBytes.{Appends, Keeps}
-use Rattle.vortex_select.specs.Column.{ColumnType, i64_column, i64_values, IsPlainArray}
-use Rattle.vortex_select.specs.Layout.{type_message, array_message, body_end, kept_region, AreLaidOut}
-use Rattle.vortex_select.specs.Selection.{bears, selected, counts_of}
-use Rattle.vortex_select.specs.Decoding.{after_type_of, plain_array_of}
+use Rattle.vortex_select.specs.Column.{ColumnType, i64_column, i64_values, IsPrimitiveArray}
+use Rattle.vortex_select.specs.Layout.{type_message, array_message, body_end, AreLaidOut}
+use Rattle.vortex_select.specs.inner.KeptRows.{kept_region}
+use Rattle.vortex_value.specs.Operator.{bears}
+use Rattle.vortex_select.specs.Selection.{selected, counts_of}
+use Rattle.vortex_select.specs.inner.Decoding.{after_type_of, primitive_array_of}
 use Rattle.vortex_select.specs.Report.{no_counts}
 use Rattle.vortex_select.specs.Theorem.{IsColumnStream, Selects, BeginsWith, SelectsPart}
-use Rattle.vortex_select.specs.Fronts.{IsFront, AreFronts, IsMade, IsLastWithin, Reaches}
-use Rattle.vortex_select.specs.declared.report.Counts.{Counts}
-use Rattle.vortex_select.specs.declared.selecting.Front.{Front}
-use Rattle.vortex_select.specs.declared.selection.Query.{Query}
+use Rattle.vortex_select.specs.inner.Prefixes.{IsPrefix, ArePrefixes, IsMade, IsLastWithin, Reaches}
+use Rattle.vortex_select.specs.declared.report.RowCounts.{RowCounts}
+use Rattle.vortex_select.specs.declared.whole_output.Prefix.{Prefix}
+use Rattle.vortex_select.specs.declared.words.Query.{Query}
 use Rattle.vortex_select.proofs.Framing.{after_type_found}
 use Rattle.vortex_select.proofs.ArrayFound.{array_found}
-use Rattle.vortex_select.proofs.ArrayMessage.{plain_names, array_stands}
+use Rattle.vortex_select.proofs.ArrayMessage.{primitive_names, array_stands}
 use Rattle.vortex_select.proofs.KeptRows.{kept_short, kept_values, length-values}
 use Rattle.vortex_select.proofs.TypeMessage.{type_body, type_message_is, type_body_is}
 
--- What is done so far of an input's messages of arrays: those at its front are read, and their selected rows are
+-- What is done so far of an input's messages of arrays: those at its prefix are read, and their selected rows are
 -- written behind the message of the type.
-pub record Progress (query : Query) (start rest out : List ℕ) (counts : Counts) (fronts : List Front) : Type 0 where
-  pub front : List ℕ
+pub record Progress (query : Query) (start rest out : List ℕ) (counts : RowCounts) (prefixes : List Prefix) : Type 0 where
+  pub prefix : List ℕ
   pub tail : List ℕ
   pub arrays : List (List ℤ)
-  pub parts : start ≡ front ++ rest
-  pub read : AreArrays IsPlainArray i64_column front arrays
+  pub parts : start ≡ prefix ++ rest
+  pub read : AreArrays IsPrimitiveArray i64_column prefix arrays
   pub out_is : out ≡ type_message ++ tail
-  pub written : AreArrays IsPlainArray i64_column tail (selected query arrays)
+  pub written : AreArrays IsPrimitiveArray i64_column tail (selected query arrays)
   pub laid_out : AreLaidOut tail (selected query arrays)
   pub counts_are : counts ≡ counts_of arrays (selected query arrays)
-  pub fronts_are : AreFronts query i64_column arrays out 1 fronts
-  pub all : length fronts ≡ length arrays
-  pub few : counts.arrays ≤ length front
+  pub prefixes_are : ArePrefixes query i64_column arrays out 1 prefixes
+  pub all : length prefixes ≡ length arrays
+  pub few : counts.arrays ≤ length prefix
   pub read_bound : counts.read ≤ 2 ^ 32 * counts.arrays
   pub kept_bound : counts.kept ≤ counts.read
 
 pub progress_start : (query : Query) (start : List ℕ) → Progress query start start type_message no_counts []
 progress_start query start = record {
-  front = [];
+  prefix = [];
   tail = [];
   arrays = [];
   parts = refl;
@@ -54,7 +56,7 @@ progress_start query start = record {
   written = refl;
   laid_out = refl;
   counts_are = refl;
-  fronts_are = tt;
+  prefixes_are = tt;
   all = refl;
   few = omega arith;
   read_bound = omega arith;
@@ -62,7 +64,7 @@ progress_start query start = record {
 }
 
 -- the counts with one array more
-abbrev pub counted : Counts → ℕ → ℕ → Counts
+abbrev pub counted : RowCounts → ℕ → ℕ → RowCounts
 counted counts read kept = record { arrays = counts.arrays + 1; read = counts.read + read; kept = counts.kept + kept }
 
 counts_more : (arrays kept : List (List ℤ)) (a k : List ℤ) → counted (counts_of arrays kept) (length a) (length k) ≡ counts_of (arrays ++ a ∷ []) (kept ++ k ∷ [])
@@ -70,16 +72,16 @@ counts_more arrays kept a k =
     let arrays_are : length arrays + 1 ≡ length (arrays ++ a ∷ []) = omega (arith, length-append arrays (a ∷ [])) in
     let read_is : sum_by length arrays + length a ≡ sum_by length (arrays ++ a ∷ []) = omega (arith, sum_by-append length arrays (a ∷ [])) in
     let kept_is : sum_by length kept + length k ≡ sum_by length (kept ++ k ∷ []) = omega (arith, sum_by-append length kept (k ∷ [])) in
-    ap (λ n. let c : Counts = record { arrays = n; read = sum_by length arrays + length a; kept = sum_by length kept + length k } in c) arrays_are
-    ∙ ap (λ n. let c : Counts = record { arrays = length (arrays ++ a ∷ []); read = n; kept = sum_by length kept + length k } in c) read_is
-    ∙ ap (λ n. let c : Counts = record { arrays = length (arrays ++ a ∷ []); read = sum_by length (arrays ++ a ∷ []); kept = n } in c) kept_is
+    ap (λ n. let c : RowCounts = record { arrays = n; read = sum_by length arrays + length a; kept = sum_by length kept + length k } in c) arrays_are
+    ∙ ap (λ n. let c : RowCounts = record { arrays = length (arrays ++ a ∷ []); read = n; kept = sum_by length kept + length k } in c) read_is
+    ∙ ap (λ n. let c : RowCounts = record { arrays = length (arrays ++ a ∷ []); read = sum_by length (arrays ++ a ∷ []); kept = n } in c) kept_is
 
 -- a message has a byte at least
 own_long : (own body : List ℕ) (content : Content) → IsMessage own content body [] → 1 ≤ length own
 own_long own body content m = omega (arith, ap length m.parts, length-append m.prefix m.header, length-append (m.prefix ++ m.header) body, length-append (m.prefix ++ m.header ++ body) [], m.prefix_len)
 
 -- the output so far stands for the rows so far
-out_stands : (query : Query) (out tail : List ℕ) (kept : List (List ℤ)) → out ≡ type_message ++ tail → AreArrays IsPlainArray i64_column tail kept → IsColumnStream out i64_column kept
+out_stands : (query : Query) (out tail : List ℕ) (kept : List (List ℤ)) → out ≡ type_message ++ tail → AreArrays IsPrimitiveArray i64_column tail kept → IsColumnStream out i64_column kept
 out_stands query out tail kept e h =
     let laid : IsMessage (type_message ++ tail) type_content type_body ([] ++ tail) = message_append type_message type_content type_body [] tail type_message_is in
     let whole : IsColumnStream (type_message ++ tail) i64_column kept = record { body = type_body; rest = tail; message = laid; is_type = type_body_is; are_arrays = h } in
@@ -91,33 +93,33 @@ length-selected query arrays = length-map arrays (filter (λ row. bears query.op
 selected-append : (query : Query) (arrays : List (List ℤ)) (rows : List ℤ) → selected query (arrays ++ rows ∷ []) ≡ selected query arrays ++ filter (λ row. bears query.operator (int_cmp row query.constant)) rows ∷ []
 selected-append query arrays rows = map-append (filter (λ row. bears query.operator (int_cmp row query.constant))) arrays (rows ∷ [])
 
--- a front stays one when another array is written
-front_stays : (query : Query) (arrays : List (List ℤ)) (rows : List ℤ) (out more : List ℕ) (n : ℕ) (front : Front) → n ≤ length arrays → IsFront query i64_column arrays out n front → IsFront query i64_column (arrays ++ rows ∷ []) (out ++ more) n front
-front_stays query arrays rows out more n front le h =
+-- a prefix stays one when another array is written
+prefix_stays : (query : Query) (arrays : List (List ℤ)) (rows : List ℤ) (out more : List ℕ) (n : ℕ) (prefix : Prefix) → n ≤ length arrays → IsPrefix query i64_column arrays out n prefix → IsPrefix query i64_column (arrays ++ rows ∷ []) (out ++ more) n prefix
+prefix_stays query arrays rows out more n prefix le h =
     let kept = selected query arrays in
     let few : n ≤ length kept = omega (arith, length-selected query arrays) in
     let same_kept : take n (selected query (arrays ++ rows ∷ [])) ≡ take n kept = ap (take n) (selected-append query arrays rows) ∙ take-append-le n kept (filter (λ row. bears query.operator (int_cmp row query.constant)) rows ∷ []) few in
     let same_arrays : take n (arrays ++ rows ∷ []) ≡ take n arrays = take-append-le n arrays (rows ∷ []) le in
-    let same_out : take front.end (out ++ more) ≡ take front.end out = take-append-le front.end out more h.within in
+    let same_out : take prefix.end (out ++ more) ≡ take prefix.end out = take-append-le prefix.end out more h.within in
     record {
       within = omega (arith, h.within, length-append out more);
-      stands = subst (λ (l : List ℕ). IsColumnStream l i64_column (take n (selected query (arrays ++ rows ∷ [])))) (sym same_out) (subst (λ (l : List (List ℤ)). IsColumnStream (take front.end out) i64_column l) (sym same_kept) h.stands);
+      stands = subst (λ (l : List ℕ). IsColumnStream l i64_column (take n (selected query (arrays ++ rows ∷ [])))) (sym same_out) (subst (λ (l : List (List ℤ)). IsColumnStream (take prefix.end out) i64_column l) (sym same_kept) h.stands);
       counts_are = h.counts_are ∙ sym (ap (λ a. counts_of a (take n (selected query (arrays ++ rows ∷ [])))) same_arrays ∙ ap (counts_of (take n arrays)) same_kept);
     }
 
-fronts_more : (query : Query) (arrays : List (List ℤ)) (rows : List ℤ) (out more : List ℕ) (n : ℕ) (fronts : List Front) (front : Front) → n + length fronts ≡ length arrays + 1
-    → AreFronts query i64_column arrays out n fronts → IsFront query i64_column (arrays ++ rows ∷ []) (out ++ more) (length arrays + 1) front
-    → AreFronts query i64_column (arrays ++ rows ∷ []) (out ++ more) n (fronts ++ front ∷ [])
-fronts_more query arrays rows out more n [] front e h new =
+prefixes_more : (query : Query) (arrays : List (List ℤ)) (rows : List ℤ) (out more : List ℕ) (n : ℕ) (prefixes : List Prefix) (prefix : Prefix) → n + length prefixes ≡ length arrays + 1
+    → ArePrefixes query i64_column arrays out n prefixes → IsPrefix query i64_column (arrays ++ rows ∷ []) (out ++ more) (length arrays + 1) prefix
+    → ArePrefixes query i64_column (arrays ++ rows ∷ []) (out ++ more) n (prefixes ++ prefix ∷ [])
+prefixes_more query arrays rows out more n [] prefix e h new =
     let same : length arrays + 1 ≡ n = omega arith in
-    (subst (λ k. IsFront query i64_column (arrays ++ rows ∷ []) (out ++ more) k front) same new, tt)
-fronts_more query arrays rows out more n (f ∷ fronts) front e h new =
-    (front_stays query arrays rows out more n f (omega arith) h.0, fronts_more query arrays rows out more (suc n) fronts front (omega arith) h.1 new)
+    (subst (λ k. IsPrefix query i64_column (arrays ++ rows ∷ []) (out ++ more) k prefix) same new, tt)
+prefixes_more query arrays rows out more n (f ∷ prefixes) prefix e h new =
+    (prefix_stays query arrays rows out more n f (omega arith) h.0, prefixes_more query arrays rows out more (suc n) prefixes prefix (omega arith) h.1 new)
 
--- the front of all that is written so far
-whole_front : (query : Query) (arrays : List (List ℤ)) (out : List ℕ) (counts : Counts) (n len : ℕ) → IsColumnStream out i64_column (selected query arrays) → counts ≡ counts_of arrays (selected query arrays) → n ≡ length arrays → len ≡ length out
-    → IsFront query i64_column arrays out n (record { end = len; counts = counts })
-whole_front query arrays out counts n len stands e same long =
+-- the prefix of all that is written so far
+whole_prefix : (query : Query) (arrays : List (List ℤ)) (out : List ℕ) (counts : RowCounts) (n len : ℕ) → IsColumnStream out i64_column (selected query arrays) → counts ≡ counts_of arrays (selected query arrays) → n ≡ length arrays → len ≡ length out
+    → IsPrefix query i64_column arrays out n (record { end = len; counts = counts })
+whole_prefix query arrays out counts n len stands e same long =
     let all_out : take len out ≡ out = ap (λ j. take j out) long ∙ take-length out in
     let all_arrays : take n arrays ≡ arrays = ap (λ j. take j arrays) same ∙ take-length arrays in
     let n_kept : n ≡ length (selected query arrays) = omega (arith, length-selected query arrays) in
@@ -135,11 +137,11 @@ laid_more bytes region [] rows h len values =
 laid_more bytes region (first ∷ arrays) rows h len values =
     (h.0, h.1 ++ array_message region, ap (λ (l : List ℕ). l ++ array_message region) h.2 ∙ append_assoc (array_message h.0) h.1 (array_message region), h.3, h.4, laid_more h.1 region arrays rows h.5 len values)
 
-pub progress_more : (query : Query) (start rest out : List ℕ) (counts : Counts) (fronts : List Front) (p : List ℕ × List ℕ) (len : ℕ) → Progress query start rest out counts fronts → plain_array_of rest ≡ Some p → length p.0 < 2 ^ 32
+pub progress_more : (query : Query) (start rest out : List ℕ) (counts : RowCounts) (prefixes : List Prefix) (p : List ℕ × List ℕ) (len : ℕ) → Progress query start rest out counts prefixes → primitive_array_of rest ≡ Some p → length p.0 < 2 ^ 32
     → len ≡ length (out ++ array_message (kept_region query p.0))
     → Progress query start p.1 (out ++ array_message (kept_region query p.0)) (counted counts (length p.0 / 8) (length (kept_region query p.0) / 8))
-    (fronts ++ record { end = len; counts = counted counts (length p.0 / 8) (length (kept_region query p.0) / 8) } ∷ [])
-progress_more query start rest out counts fronts p len so_far found short len_is =
+    (prefixes ++ record { end = len; counts = counted counts (length p.0 / 8) (length (kept_region query p.0) / 8) } ∷ [])
+progress_more query start rest out counts prefixes p len so_far found short len_is =
     let f = array_found rest p found in
     let rows = i64_values f.count p.0 in
     let k = kept_values query p.0 f.count f.len in
@@ -148,40 +150,40 @@ progress_more query start rest out counts fronts p len so_far found short len_is
     let stands = array_stands region k.kept region_short k.len in
     let own = message_bytes rest (array_content f.count f.names) f.body p.1 f.message in
     let kept_rows = filter (λ row. bears query.operator (int_cmp row query.constant)) rows in
-    let in_one = one_array IsPlainArray i64_column own.own f.count f.names f.body rows own.message f.array in
-    let out_one : AreArrays IsPlainArray i64_column (array_message region) (kept_rows ∷ []) = subst (λ (l : List ℤ). AreArrays IsPlainArray i64_column (array_message region) (l ∷ [])) k.values (one_array IsPlainArray i64_column (array_message region) k.kept plain_names (region ++ body_end (length region)) (i64_values k.kept region) stands.message stands.array) in
+    let in_one = one_array IsPrimitiveArray i64_column own.own f.count f.names f.body rows own.message f.array in
+    let out_one : AreArrays IsPrimitiveArray i64_column (array_message region) (kept_rows ∷ []) = subst (λ (l : List ℤ). AreArrays IsPrimitiveArray i64_column (array_message region) (l ∷ [])) k.values (one_array IsPrimitiveArray i64_column (array_message region) k.kept primitive_names (region ++ body_end (length region)) (i64_values k.kept region) stands.message stands.array) in
     let selected_more : selected query so_far.arrays ++ kept_rows ∷ [] ≡ selected query (so_far.arrays ++ rows ∷ []) = sym (map-append (filter (λ row. bears query.operator (int_cmp row query.constant))) so_far.arrays (rows ∷ [])) in
     let read_n : length p.0 / 8 ≡ length rows = omega (arith, length-values f.count p.0, f.len) in
     let kept_n : length region / 8 ≡ length kept_rows = omega (arith, k.len, length-values k.kept region, ap length k.values) in
     let arrays = so_far.arrays ++ rows ∷ [] in
     let out_is : out ++ array_message region ≡ type_message ++ (so_far.tail ++ array_message region) = ap (λ (l : List ℕ). l ++ array_message region) so_far.out_is ∙ append_assoc type_message so_far.tail (array_message region) in
-    let written : AreArrays IsPlainArray i64_column (so_far.tail ++ array_message region) (selected query arrays) = subst (AreArrays IsPlainArray i64_column (so_far.tail ++ array_message region)) selected_more (arrays_append IsPlainArray i64_column so_far.tail (array_message region) (selected query so_far.arrays) (kept_rows ∷ []) so_far.written out_one) in
+    let written : AreArrays IsPrimitiveArray i64_column (so_far.tail ++ array_message region) (selected query arrays) = subst (AreArrays IsPrimitiveArray i64_column (so_far.tail ++ array_message region)) selected_more (arrays_append IsPrimitiveArray i64_column so_far.tail (array_message region) (selected query so_far.arrays) (kept_rows ∷ []) so_far.written out_one) in
     let n_kept : length kept_rows ≡ k.kept = sym (ap length k.values) ∙ length-values k.kept region in
     let laid_len : length region ≡ 8 * length kept_rows = omega (arith, k.len, n_kept) in
     let laid_values : i64_values (length kept_rows) region ≡ kept_rows = ap (λ j. i64_values j region) n_kept ∙ k.values in
     let laid_out : AreLaidOut (so_far.tail ++ array_message region) (selected query arrays) = subst (AreLaidOut (so_far.tail ++ array_message region)) selected_more (laid_more so_far.tail region (selected query so_far.arrays) kept_rows so_far.laid_out laid_len laid_values) in
     let counts_are : counted counts (length p.0 / 8) (length region / 8) ≡ counts_of arrays (selected query arrays) = ap (λ c. counted c (length p.0 / 8) (length region / 8)) so_far.counts_are ∙ ap (λ n. counted (counts_of so_far.arrays (selected query so_far.arrays)) n (length region / 8)) read_n ∙ ap (counted (counts_of so_far.arrays (selected query so_far.arrays)) (length rows)) kept_n ∙ counts_more so_far.arrays (selected query so_far.arrays) rows kept_rows ∙ ap (counts_of arrays) selected_more in
     let n : length so_far.arrays + 1 ≡ length arrays = omega (arith, length-append so_far.arrays (rows ∷ [])) in
-    let front = whole_front query arrays (out ++ array_message region) (counted counts (length p.0 / 8) (length region / 8)) (length so_far.arrays + 1) len (out_stands query (out ++ array_message region) (so_far.tail ++ array_message region) (selected query arrays) out_is written) counts_are n len_is in
+    let prefix = whole_prefix query arrays (out ++ array_message region) (counted counts (length p.0 / 8) (length region / 8)) (length so_far.arrays + 1) len (out_stands query (out ++ array_message region) (so_far.tail ++ array_message region) (selected query arrays) out_is written) counts_are n len_is in
     record {
-      front = so_far.front ++ own.own;
+      prefix = so_far.prefix ++ own.own;
       tail = so_far.tail ++ array_message region;
       arrays = so_far.arrays ++ rows ∷ [];
-      parts = so_far.parts ∙ ap (λ (l : List ℕ). so_far.front ++ l) own.parts ∙ sym (append_assoc so_far.front own.own p.1);
-      read = arrays_append IsPlainArray i64_column so_far.front own.own so_far.arrays (rows ∷ []) so_far.read in_one;
+      parts = so_far.parts ∙ ap (λ (l : List ℕ). so_far.prefix ++ l) own.parts ∙ sym (append_assoc so_far.prefix own.own p.1);
+      read = arrays_append IsPrimitiveArray i64_column so_far.prefix own.own so_far.arrays (rows ∷ []) so_far.read in_one;
       out_is = out_is;
       written = written;
       laid_out = laid_out;
       counts_are = counts_are;
-      fronts_are = fronts_more query so_far.arrays rows out (array_message region) 1 fronts (record { end = len; counts = counted counts (length p.0 / 8) (length region / 8) }) (omega (arith, so_far.all)) so_far.fronts_are front;
-      all = omega (arith, so_far.all, length-append fronts (let new : Front = record { end = len; counts = counted counts (length p.0 / 8) (length region / 8) } in new ∷ []), n);
-      few = omega (arith, so_far.few, length-append so_far.front own.own, own_long own.own f.body (array_content f.count f.names) own.message);
+      prefixes_are = prefixes_more query so_far.arrays rows out (array_message region) 1 prefixes (record { end = len; counts = counted counts (length p.0 / 8) (length region / 8) }) (omega (arith, so_far.all)) so_far.prefixes_are prefix;
+      all = omega (arith, so_far.all, length-append prefixes (let new : Prefix = record { end = len; counts = counted counts (length p.0 / 8) (length region / 8) } in new ∷ []), n);
+      few = omega (arith, so_far.few, length-append so_far.prefix own.own, own_long own.own f.body (array_content f.count f.names) own.message);
       read_bound = omega (arith, so_far.read_bound);
       kept_bound = omega (arith, so_far.kept_bound, kept_short query p.0);
     }
 
 -- what follows a message is shorter than its bytes
-pub rest_shorter : (rest : List ℕ) (p : List ℕ × List ℕ) → plain_array_of rest ≡ Some p → length p.1 < length rest
+pub rest_shorter : (rest : List ℕ) (p : List ℕ × List ℕ) → primitive_array_of rest ≡ Some p → length p.1 < length rest
 rest_shorter rest p found =
     let f = array_found rest p found in
     let own = message_bytes rest (array_content f.count f.names) f.body p.1 f.message in
@@ -195,49 +197,49 @@ after_type_shorter input rest e =
     omega (arith, ap length own.parts, length-append own.own rest)
 
 -- once nothing is left, the whole is done
-pub progress_end : (query : Query) (input start rest out : List ℕ) (counts : Counts) (fronts : List Front) → after_type_of input ≡ Some start → rest ≡ [] → Progress query start rest out counts fronts → IsMade query input out counts fronts
-progress_end query input start rest out counts fronts e none so_far =
+pub progress_end : (query : Query) (input start rest out : List ℕ) (counts : RowCounts) (prefixes : List Prefix) → after_type_of input ≡ Some start → rest ≡ [] → Progress query start rest out counts prefixes → IsMade query input out counts prefixes
+progress_end query input start rest out counts prefixes e none so_far =
     let a = after_type_found input start e in
-    let whole : start ≡ so_far.front = so_far.parts ∙ ap (λ (l : List ℕ). so_far.front ++ l) none ∙ append-nil so_far.front in
+    let whole : start ≡ so_far.prefix = so_far.parts ∙ ap (λ (l : List ℕ). so_far.prefix ++ l) none ∙ append-nil so_far.prefix in
     record {
       column = i64_column;
       arrays = so_far.arrays;
-      read = record { body = a.body; rest = start; message = a.message; is_type = a.column; are_arrays = subst (λ (l : List ℕ). AreArrays IsPlainArray i64_column l so_far.arrays) (sym whole) so_far.read };
+      read = record { body = a.body; rest = start; message = a.message; is_type = a.column; are_arrays = subst (λ (l : List ℕ). AreArrays IsPrimitiveArray i64_column l so_far.arrays) (sym whole) so_far.read };
       written = out_stands query out so_far.tail (selected query so_far.arrays) so_far.out_is so_far.written;
       laid_out = (so_far.tail, so_far.out_is, so_far.laid_out);
       counts_are = so_far.counts_are;
-      fronts_are = so_far.fronts_are;
+      prefixes_are = so_far.prefixes_are;
       all = so_far.all;
     }
 
 -- ---- what was written
 
-pub made_selects : (query : Query) (input output : List ℕ) (counts : Counts) (fronts : List Front) → IsMade query input output counts fronts → Selects query input output counts
-made_selects query input output counts fronts m = record { column = m.column; arrays = m.arrays; read = m.read; written = m.written; laid_out = m.laid_out; counts_are = m.counts_are }
+pub made_selects : (query : Query) (input output : List ℕ) (counts : RowCounts) (prefixes : List Prefix) → IsMade query input output counts prefixes → Selects query input output counts
+made_selects query input output counts prefixes m = record { column = m.column; arrays = m.arrays; read = m.read; written = m.written; laid_out = m.laid_out; counts_are = m.counts_are }
 
--- the front at a place
-front_at : (query : Query) (column : ColumnType) (arrays : List (List ℤ)) (output : List ℕ) (n i : ℕ) (fronts : List Front) (front : Front) → AreFronts query column arrays output n fronts → slice_get fronts i ≡ Some front → IsFront query column arrays output (n + i) front
-front_at query column arrays output n i [] front h e = absurd cc
-front_at query column arrays output n zero (f ∷ fronts) front h e =
-    let same : f ≡ front = cc in
+-- the prefix at a place
+prefix_at : (query : Query) (column : ColumnType) (arrays : List (List ℤ)) (output : List ℕ) (n i : ℕ) (prefixes : List Prefix) (prefix : Prefix) → ArePrefixes query column arrays output n prefixes → slice_get prefixes i ≡ Some prefix → IsPrefix query column arrays output (n + i) prefix
+prefix_at query column arrays output n i [] prefix h e = absurd cc
+prefix_at query column arrays output n zero (f ∷ prefixes) prefix h e =
+    let same : f ≡ prefix = cc in
     let here : n ≡ n + 0 = omega arith in
-    subst (λ k. IsFront query column arrays output k front) here (subst (IsFront query column arrays output n) same h.0)
-front_at query column arrays output n (suc i) (f ∷ fronts) front h e =
+    subst (λ k. IsPrefix query column arrays output k prefix) here (subst (IsPrefix query column arrays output n) same h.0)
+prefix_at query column arrays output n (suc i) (f ∷ prefixes) prefix h e =
     let next : suc n + i ≡ n + suc i = omega arith in
-    subst (λ k. IsFront query column arrays output k front) next (front_at query column arrays output (suc n) i fronts front h.1 e)
+    subst (λ k. IsPrefix query column arrays output k prefix) next (prefix_at query column arrays output (suc n) i prefixes prefix h.1 e)
 
-last_reached : (query : Query) (column : ColumnType) (arrays : List (List ℤ)) (output part : List ℕ) (fronts : List Front) (whole bytes : ℕ) (counts : Counts) → bytes ≡ length part → AreFronts query column arrays output 1 fronts → IsLastWithin fronts bytes whole counts
+last_reached : (query : Query) (column : ColumnType) (arrays : List (List ℤ)) (output part : List ℕ) (prefixes : List Prefix) (whole bytes : ℕ) (counts : RowCounts) → bytes ≡ length part → ArePrefixes query column arrays output 1 prefixes → IsLastWithin prefixes bytes whole counts
     → ((whole ≡ 0) ⊎ ((len : ℕ) × (len ≤ length part) × BeginsWith output column (take whole (selected query arrays)) len)) × (counts ≡ counts_of (take whole arrays) (take whole (selected query arrays)))
-last_reached query column arrays output part fronts zero bytes counts long h last = (inl refl, last)
-last_reached query column arrays output part fronts (suc i) bytes counts long h last =
-    let f = front_at query column arrays output 1 i fronts last.0 h last.1 in
+last_reached query column arrays output part prefixes zero bytes counts long h last = (inl refl, last)
+last_reached query column arrays output part prefixes (suc i) bytes counts long h last =
+    let f = prefix_at query column arrays output 1 i prefixes last.0 h last.1 in
     let n : 1 + i ≡ suc i = omega arith in
-    let front = subst (λ k. IsFront query column arrays output k last.0) n f in
-    (inr (last.0.end, omega (arith, last.2), record { within = front.within; stands = front.stands }), last.3 ∙ front.counts_are)
+    let prefix = subst (λ k. IsPrefix query column arrays output k last.0) n f in
+    (inr (last.0.end, omega (arith, last.2), record { within = prefix.within; stands = prefix.stands }), last.3 ∙ prefix.counts_are)
 
-pub part_of : (query : Query) (input output part more : List ℕ) (bytes : ℕ) (counts kept : Counts) (fronts : List Front) → IsMade query input output counts fronts → bytes ≡ length part → output ≡ part ++ more → Reaches fronts bytes kept → SelectsPart query input part kept
-part_of query input output part more bytes counts kept fronts m long e r =
-    let last = last_reached query m.column m.arrays output part fronts r.whole bytes kept long m.fronts_are r.last in
+pub part_of : (query : Query) (input output part more : List ℕ) (bytes : ℕ) (counts kept : RowCounts) (prefixes : List Prefix) → IsMade query input output counts prefixes → bytes ≡ length part → output ≡ part ++ more → Reaches prefixes bytes kept → SelectsPart query input part kept
+part_of query input output part more bytes counts kept prefixes m long e r =
+    let last = last_reached query m.column m.arrays output part prefixes r.whole bytes kept long m.prefixes_are r.last in
     record {
       column = m.column;
       arrays = m.arrays;
@@ -252,17 +254,17 @@ part_of query input output part more bytes counts kept fronts m long e r =
       no_more = elim r.next [
         | inl all ↦ inl (all ∙ m.all)
         | inr next ↦
-            (let f = front_at query m.column m.arrays output 1 r.whole fronts next.0 m.fronts_are next.1 in
+            (let f = prefix_at query m.column m.arrays output 1 r.whole prefixes next.0 m.prefixes_are next.1 in
             let n : 1 + r.whole ≡ suc r.whole = omega arith in
-            let front = subst (λ k. IsFront query m.column m.arrays output k next.0) n f in
-            inr (next.0.end, omega (arith, next.2), record { within = front.within; stands = front.stands }))
+            let prefix = subst (λ k. IsPrefix query m.column m.arrays output k next.0) n f in
+            inr (next.0.end, omega (arith, next.2), record { within = prefix.within; stands = prefix.stands }))
       ];
       counts_are = last.1;
     }
 
 -- all was written, and the flush failed
-pub all_of : (query : Query) (input output : List ℕ) (counts : Counts) (fronts : List Front) → IsMade query input output counts fronts → SelectsPart query input output counts
-all_of query input output counts fronts m =
+pub all_of : (query : Query) (input output : List ℕ) (counts : RowCounts) (prefixes : List Prefix) → IsMade query input output counts prefixes → SelectsPart query input output counts
+all_of query input output counts prefixes m =
     let n = length m.arrays in
     let kept = selected query m.arrays in
     let n_kept : n ≡ length kept = sym (length-selected query m.arrays) in

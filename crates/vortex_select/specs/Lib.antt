@@ -1,10 +1,9 @@
 pub mod Words
-pub mod Views
 pub mod Selection
 pub mod Column
-pub mod Decoding
 pub mod Layout
 pub mod Report
+pub mod ErrorNumber
 pub mod Theorem
-pub mod Fronts
-pub mod LayoutLaws
+pub mod Answer
+pub mod inner

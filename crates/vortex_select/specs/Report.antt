@@ -1,19 +1,9 @@
 -- The status and the note of a run.
-use Rattle.std.specs.Prelude.{◌≡◌, ℕ, List, ◌++◌, Option, Some, None, codes, decimal}
-use Rattle.vortex_select.specs.declared.error.SelectError.{SelectError}
+use Rattle.std.specs.Prelude.{ℕ, List, ◌++◌, Option, Some, None, codes, decimal}
 use Rattle.vortex_select.specs.declared.error.SelectError.TheVariants.{ReadFault, WriteFault, ReadLimit, OutOfMemory, Unbuilt}
-use Rattle.vortex_select.specs.declared.report.Counts.{Counts}
-use Rattle.vortex_select.specs.declared.program.Stopped.{Stopped}
+use Rattle.vortex_select.specs.declared.report.RowCounts.{RowCounts}
 use Rattle.vortex_select.specs.declared.report.RunFault.{RunFault}
 use Rattle.vortex_select.specs.declared.report.RunFault.TheVariants.{BadWords, Select}
-
--- the number under which documents list an error
-abbrev pub number_of : SelectError → ℕ
-number_of ReadFault = 1
-number_of WriteFault = 2
-number_of ReadLimit = 3
-number_of OutOfMemory = 13
-number_of Unbuilt = 14
 
 -- the exit status
 abbrev pub status_of : Option RunFault → ℕ
@@ -35,17 +25,12 @@ name_of (Select OutOfMemory) = codes "OutOfMemory"
 name_of (Select Unbuilt) = codes "Unbuilt"
 
 -- the one line of the note
-abbrev pub note_of : Counts → Option RunFault → List ℕ
+abbrev pub note_of : RowCounts → Option RunFault → List ℕ
 note_of counts None =
     codes "arrays " ++ decimal counts.arrays ++ codes ", read " ++ decimal counts.read
     ++ codes ", kept " ++ decimal counts.kept ++ codes "\n"
 note_of counts (Some fault) = codes "error: " ++ name_of fault ++ codes "\n"
 
 -- the counts of no array
-abbrev pub no_counts : Counts
+abbrev pub no_counts : RowCounts
 no_counts = record { arrays = 0; read = 0; kept = 0 }
-
--- stopped by this error, with counts of 0
-pub record IsBeforeWriting (error : SelectError) (stopped : Stopped) : Type 0 where
-  pub error_is : stopped.error ≡ error
-  pub counts_are : stopped.counts ≡ no_counts

@@ -12,7 +12,8 @@ const UNUSUAL: [u8; 207] = [
     // s -17; kind 1; body size 118; table 24 further on
     0xef, 0xff, 0xff, 0xff, 0x01, 0x76, 0x00, 0x00, 0x00, 0x00, 0x00, 0x00, 0x00, 0x18, 0x00, 0x00,
     0x00,
-    // vtable behind its table: size 12, inline 17; version absent, kind at 4, table at 13, body size at 5
+    // vtable behind its table: size 12, inline 17; version absent, kind at 4, table at 13, body
+    // size at 5
     0x0c, 0x00, 0x11, 0x00, 0x00, 0x00, 0x04, 0x00, 0x0d, 0x00, 0x05, 0x00,
     // vtable: size 8, inline 12; row count at 4, names at 8
     0x08, 0x00, 0x0c, 0x00, 0x04, 0x00, 0x08, 0x00,
@@ -32,7 +33,8 @@ const UNUSUAL: [u8; 207] = [
     0x08, 0x00, 0x0c, 0x00, 0x04, 0x00, 0x08, 0x00,
     // s 8; node 20, records 43 further on
     0x08, 0x00, 0x00, 0x00, 0x14, 0x00, 0x00, 0x00, 0x2b, 0x00, 0x00, 0x00,
-    // vtable of a node: size 12, inline 14; encoding at 12, metadata at 8, children absent, buffers at 4
+    // vtable of a node: size 12, inline 14; encoding at 12, metadata at 8, children absent, buffers
+    // at 4
     0x0c, 0x00, 0x0e, 0x00, 0x0c, 0x00, 0x08, 0x00, 0x00, 0x00, 0x04, 0x00,
     // s 12; buffers 10, metadata 14 further on; encoding 1
     0x0c, 0x00, 0x00, 0x00, 0x0a, 0x00, 0x00, 0x00, 0x0e, 0x00, 0x00, 0x00, 0x01, 0x00,
@@ -47,7 +49,8 @@ const UNUSUAL: [u8; 207] = [
     0x5b, 0x00, 0x00, 0x00,
 ];
 
-// Whether the program does with a stream what the plain reader says: the status, the output and the note.
+// Whether the program does with a stream what the plain reader says: the status, the output and the
+// note.
 fn alike(alloc: Global, input: &[u8]) -> Result<bool, AllocError> {
     let got = outcome_of(alloc, &["select", ".", "ge", "i64:2"], input, &STEADY)?;
     let want = expectation_of(alloc, input)?;
@@ -76,7 +79,8 @@ fn first_value(alloc: Global, whole: &[u8], place: usize) -> Result<Option<u8>, 
     Ok(None)
 }
 
-// What is not done alike first: a front of so many bytes, or the byte at a place with another value.
+// What is not done alike first: a prefix of so many bytes, or the byte at a place with another
+// value.
 fn first_difference(
     alloc: Global,
     whole: &[u8],

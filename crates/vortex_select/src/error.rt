@@ -1,5 +1,5 @@
 ghost use Rattle.std.specs.Prelude.{◌≡◌};
-ghost use Rattle.vortex_select.specs.Report.{number_of};
+ghost use Rattle.vortex_select.specs.ErrorNumber.{error_number};
 ghost use Rattle.vortex_select.specs.declared.error.SelectError.TheVariants.{OutOfMemory};
 
 use std::alloc::{AllocError, AllocFailed};
@@ -16,7 +16,8 @@ pub enum SelectError {
     ReadLimit,
     #[error("out of memory")]
     OutOfMemory,
-    /// The input is no stream of one column of 64 signed bits, never null, in plain arrays (docs/FORMATS.md).
+    /// The input is no stream of one column of 64 signed bits, never null, in primitive arrays
+    /// (docs/FORMATS.md).
     #[error("not a stream of the form that is built so far")]
     Unbuilt,
 }
@@ -24,7 +25,7 @@ pub enum SelectError {
 impl SelectError {
     /// The number under which documents list the error.
     pub fn number(self) -> u8
-        ensures { result ≡ number_of self }
+        ensures { result ≡ error_number self }
     {
         match self {
             SelectError::ReadFault => 1,

@@ -1,26 +1,26 @@
 //! Selects rows of a stream of columns: the top call, and what stands behind each of its answers.
 #![tactic(auto)]
 
-mod arrays;
+mod array_messages;
 mod decoding;
 mod error;
-mod items;
 mod laws;
-mod layout;
+mod message_items;
+mod message_parts;
 mod note;
-mod plain;
+mod primitive;
 mod program;
 mod reading;
 mod report;
 mod rows;
-mod selecting;
-mod selection;
+pub mod schema;
+mod whole_output;
 mod words;
 
 pub use error::SelectError;
 pub use laws::{one_meaning, selected_again};
 pub use program::run;
-pub use report::{Counts, RunFault, RunReport};
+pub use report::{RowCounts, RunFault, RunReport};
 
 #[cfg(test)]
 mod damage_tests;

@@ -5,7 +5,7 @@ ghost use Rattle.arrayvec.specs.ArrayString.{array_string_len};
 ghost use Rattle.vortex_select.specs.Report.{note_of, name_of};
 
 use crate::error::SelectError;
-use crate::report::{Counts, RunFault};
+use crate::report::{RowCounts, RunFault};
 use arrayvec::ArrayString;
 use itoa::Buffer;
 
@@ -13,7 +13,7 @@ use itoa::Buffer;
 const ROOM: usize = 160;
 
 /// The line, with its newline.
-pub(crate) fn line(counts: &Counts, fault: Option<RunFault>) -> ArrayString<ROOM>
+pub(crate) fn line(counts: &RowCounts, fault: Option<RunFault>) -> ArrayString<ROOM>
     ensures { result.bytes ≡ note_of counts.now fault }
 {
     match fault {
@@ -22,7 +22,7 @@ pub(crate) fn line(counts: &Counts, fault: Option<RunFault>) -> ArrayString<ROOM
     }
 }
 
-fn counts_line(counts: &Counts) -> ArrayString<ROOM>
+fn counts_line(counts: &RowCounts) -> ArrayString<ROOM>
     ensures { result.bytes ≡ note_of counts.now None }
 {
     let mut line = ArrayString::new();

@@ -1,12 +1,13 @@
-//! A plain and slow reading of streams, for the tests to compare the program with: what `select . ge i64:2` is to do.
+//! A plain and slow reading of streams, for the tests to compare the program with: what `select .
+//! ge i64:2` is to do.
 //!
-//! A place in a buffer is the rest of the buffer from there on. So a step is a cut, which finds nothing where it would leave
-//! the buffer.
+//! A place in a buffer is the rest of the buffer from there on. So a step is a cut, which finds
+//! nothing where it would leave the buffer.
 
 use crate::tests::{TYPE, array_of};
 use std::alloc::{AllocError, Global};
 
-const PLAIN: &[u8] = b"vortex.primitive";
+const PRIMITIVE: &[u8] = b"vortex.primitive";
 
 const MOST_NAMES: u64 = 65_536;
 
@@ -56,7 +57,7 @@ fn number(rest: &[u8], width: usize) -> Option<u64> {
     Some(value)
 }
 
-// The same as a distance or a count.
+// The number in the first bytes, as a distance or a count.
 fn count(rest: &[u8], width: usize) -> Option<usize> {
     Some(number(rest, width)? as usize)
 }
@@ -128,7 +129,7 @@ fn vector(rest: &[u8], width: usize) -> Option<&[u8]> {
     rest.get(4..)?.get(..size)
 }
 
-// The same of a field; a vector that is absent has none.
+// The elements of the vector that a field leads to; one that is absent has none.
 fn vector_field<'a>(table: &Table<'a>, index: usize, width: usize) -> Option<&'a [u8]> {
     match field(table, index, 4)? {
         Some(slot) => vector(target(slot)?, width),
@@ -171,8 +172,8 @@ fn after_type(stream: &[u8]) -> Option<&[u8]> {
     }
 }
 
-// How many names of encodings a header tells, where each is the plain one, which is UTF-8.
-fn plain_names(content: &Table) -> Option<u64> {
+// How many names of encodings a header tells, where each is the primitive one, which is UTF-8.
+fn primitive_names(content: &Table) -> Option<u64> {
     let Some(slot) = field(content, 1, 4)? else {
         return Some(0);
     };
@@ -180,7 +181,7 @@ fn plain_names(content: &Table) -> Option<u64> {
     let told = number(names, 4)?;
     let mut rest = names.get(4..)?;
     for _ in 0..told {
-        if vector(target(rest)?, 1)? != PLAIN {
+        if vector(target(rest)?, 1)? != PRIMITIVE {
             return None;
         }
         rest = rest.get(4..)?;
@@ -188,7 +189,8 @@ fn plain_names(content: &Table) -> Option<u64> {
     if told <= MOST_NAMES { Some(told) } else { None }
 }
 
-// The buffer of that number among those that the records tell, which stand in the region one after the other.
+// The buffer of that number among those that the descriptors tell, which stand in the region one
+// after the other.
 fn buffer<'a>(region: &'a [u8], records: &[u8], wanted: usize) -> Option<&'a [u8]> {
     let mut rest = region;
     let mut found = None;
@@ -227,7 +229,7 @@ fn node_buffer(body: &[u8], names: u64) -> Option<&[u8]> {
 fn rows(stream: &[u8]) -> Option<(&[u8], &[u8])> {
     let message = message_at(stream)?;
     let told = number_field(&message.content, 0, 4)?;
-    let names = plain_names(&message.content)?;
+    let names = primitive_names(&message.content)?;
     let found = node_buffer(message.body, names)?;
     if message.kind == 1 && found.len() as u64 == told.checked_mul(8)? {
         Some((found, message.rest))

@@ -11,14 +11,15 @@ pub struct RunReport {
     /// The status that the program exits with.
     pub status: u8,
     /// The counts of the arrays that lie whole in what was written.
-    pub counts: Counts,
+    pub counts: RowCounts,
     /// Why the run ended early, and None where it did not.
     pub fault: Option<RunFault>,
 }
 
-/// The numbers of arrays, of their rows, and of the rows kept, over the arrays that were wholly written.
+/// The numbers of arrays, of their rows, and of the rows kept, over the arrays that were wholly
+/// written.
 #[derive(Clone, Copy, Debug, PartialEq, Eq)]
-pub struct Counts {
+pub struct RowCounts {
     /// How many arrays were written.
     pub arrays: u128,
     /// How many rows these arrays had in the input.
@@ -27,9 +28,9 @@ pub struct Counts {
     pub kept: u128,
 }
 
-impl Counts {
+impl RowCounts {
     /// Of no array.
-    pub const NONE: Counts = Counts {
+    pub const NONE: RowCounts = RowCounts {
         arrays: 0,
         read: 0,
         kept: 0,

@@ -20,7 +20,8 @@ pub(crate) const TYPE: [u8; 116] = [
     0x07, 0x00, 0x00, 0x00,
 ];
 
-// The length and the header of a plain array, whose body size stands at 36 and number of rows at 64.
+// The length and the header of a primitive array, whose body size stands at 36 and number of rows
+// at 64.
 const HEADER: [u8; 108] = [
     0x68, 0x00, 0x00, 0x00, 0x18, 0x00, 0x00, 0x00, 0x00, 0x00, 0x00, 0x00, 0x0c, 0x00, 0x16, 0x00,
     0x14, 0x00, 0x15, 0x00, 0x10, 0x00, 0x08, 0x00, 0x00, 0x00, 0x00, 0x00, 0x10, 0x00, 0x00, 0x00,
@@ -31,7 +32,7 @@ const HEADER: [u8; 108] = [
     0x72, 0x69, 0x6d, 0x69, 0x74, 0x69, 0x76, 0x65, 0x00, 0x00, 0x00, 0x00,
 ];
 
-// The flat buffer of a plain array, whose buffer's length stands at 104, and its own length.
+// The flat buffer of a primitive array, whose buffer's length stands at 104, and its own length.
 const FLAT: [u8; 116] = [
     0x10, 0x00, 0x00, 0x00, 0x00, 0x00, 0x00, 0x00, 0x08, 0x00, 0x0c, 0x00, 0x04, 0x00, 0x08, 0x00,
     0x08, 0x00, 0x00, 0x00, 0x1c, 0x00, 0x00, 0x00, 0x48, 0x00, 0x00, 0x00, 0x00, 0x00, 0x00, 0x00,
@@ -43,13 +44,15 @@ const FLAT: [u8; 116] = [
     0x70, 0x00, 0x00, 0x00,
 ];
 
-/// Where a test's source and sink are short and fail.
+/// Where a test's source, sink and note are short and fail.
 #[derive(Clone, Copy)]
 pub(crate) struct Outside {
     read_sizes: &'static [usize],
     read_failing: &'static [u64],
     write_sizes: &'static [usize],
     write_failing: &'static [u64],
+    note_sizes: &'static [usize],
+    note_failing: &'static [u64],
 }
 
 pub(crate) const STEADY: Outside = Outside {
@@ -57,6 +60,8 @@ pub(crate) const STEADY: Outside = Outside {
     read_failing: &[],
     write_sizes: &[],
     write_failing: &[],
+    note_sizes: &[],
+    note_failing: &[],
 };
 
 /// What a run did.
@@ -67,6 +72,8 @@ pub(crate) struct Outcome {
     pub(crate) output: Vec<u8>,
     pub(crate) note: Vec<u8>,
     reads: u128,
+    ends: u64,
+    flushes: (u64, u64),
 }
 
 // The bytes with some of them replaced.
@@ -84,7 +91,7 @@ pub(crate) fn patched(
     Ok(all)
 }
 
-// The message of a plain array, whose rows are bytes.
+// The message of a primitive array, whose rows are bytes.
 pub(crate) fn array_of(alloc: Global, rows: &[u8]) -> Result<Vec<u8>, AllocError> {
     let len = rows.len() as u64;
     let sized = patched(alloc, &HEADER, 36, &len.saturating_add(116).to_le_bytes())?;
@@ -104,7 +111,7 @@ fn array(alloc: Global, rows: &[i64]) -> Result<Vec<u8>, AllocError> {
     array_of(alloc, &bytes)
 }
 
-// A stream of plain arrays.
+// A stream of primitive arrays.
 pub(crate) fn stream(alloc: Global, arrays: &[&[i64]]) -> Result<Vec<u8>, AllocError> {
     let mut all = TYPE.to_vec(alloc)?;
     for rows in arrays {
@@ -138,7 +145,11 @@ fn ran<L: Ledger>(
         outside.write_sizes.to_vec(alloc)?,
         outside.write_failing.to_vec(alloc)?,
     );
-    let mut note = VecSink::new(alloc, Vec::new(alloc), Vec::new(alloc));
+    let mut note = VecSink::new(
+        alloc,
+        outside.note_sizes.to_vec(alloc)?,
+        outside.note_failing.to_vec(alloc)?,
+    );
     let mut steps = Steps::<L>::new(blank);
     let report = run(alloc, &texts, &mut source, &mut sink, &mut note, &mut steps);
     Ok(Outcome {
@@ -146,7 +157,9 @@ fn ran<L: Ledger>(
         counts: (report.counts.arrays, report.counts.read, report.counts.kept),
         output: sink.written().to_vec(alloc)?,
         note: note.written().to_vec(alloc)?,
-        reads: source.read_count(),
+        reads: source.counts().reads,
+        ends: source.counts().ends,
+        flushes: (sink.counts().flushes, note.counts().flushes),
     })
 }
 
@@ -282,6 +295,51 @@ fn faults_of_the_outside_have_their_status(rt: HostRuntime) -> Result<(), Fail> 
 }
 
 #[test]
+fn a_source_is_read_once_more_than_it_gives(rt: HostRuntime) -> Result<(), Fail> {
+    let words = ["select", ".", "ge", "i64:2"];
+    let input = stream(rt.alloc(), &[&[1, 2, 3]])?;
+    let table: [(&[usize], u128); 4] = [(&[], 2), (&[1], 365), (&[100], 5), (&[364], 2)];
+    for (sizes, reads) in table {
+        let outside = Outside {
+            read_sizes: sizes,
+            ..STEADY
+        };
+        let got = outcome_of(rt.alloc(), &words, &input, &outside)?;
+        assert_eq!(rt;
+            (got.status, got.reads, got.ends),
+            (0, reads, 1),
+            "at {sizes:?}"
+        );
+    }
+    Ok(())
+}
+
+// What stands on the note, and how often sink and note were flushed.
+#[test]
+fn a_note_that_failed_is_left_as_it_is(rt: HostRuntime) -> Result<(), Fail> {
+    let words = ["select", ".", "ge", "i64:2"];
+    let line = b"arrays 0, read 0, kept 0\n";
+    let table: [(&[u64], usize, (u64, u64)); 5] = [
+        (&[], 25, (1, 1)),
+        (&[0], 0, (1, 0)),
+        (&[1], 7, (1, 0)),
+        (&[3], 21, (1, 0)),
+        (&[4], 25, (1, 0)),
+    ];
+    for (failing, written, flushes) in table {
+        let outside = Outside {
+            note_sizes: &[7],
+            note_failing: failing,
+            ..STEADY
+        };
+        let got = outcome_of(rt.alloc(), &words, &TYPE, &outside)?;
+        assert_eq!(rt; (got.status, got.flushes), (0, flushes), "at {failing:?}");
+        assert_eq!(rt; got.note.as_slice(), &line[..written], "at {failing:?}");
+    }
+    Ok(())
+}
+
+#[test]
 fn what_has_not_the_form_is_refused(rt: HostRuntime) -> Result<(), Fail> {
     let alloc = rt.alloc();
     let words = ["select", ".", "ge", "i64:2"];
@@ -322,7 +380,8 @@ fn what_has_not_the_form_is_refused(rt: HostRuntime) -> Result<(), Fail> {
     Ok(())
 }
 
-// Whether what a run wrote is given back by a run with the same words, which keeps each row that it reads.
+// Whether what a run wrote is given back by a run with the same words, which keeps each row that it
+// reads.
 fn stays(alloc: Global, words: &[&str], input: &[u8]) -> Result<bool, AllocError> {
     let once = outcome_of(alloc, words, input, &STEADY)?;
     let again = outcome_of(alloc, words, &once.output, &STEADY)?;

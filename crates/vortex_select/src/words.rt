@@ -1,14 +1,21 @@
-//! The words of the command line.
+//! The words of the command line, and what they ask for.
 
 ghost use Rattle.std.specs.Prelude.{◌≡◌, ◌++◌, ℕ, ℤ, List, IfSome, IfNone, codes};
 ghost use Rattle.vortex_select.specs.Words.{texts, operator_word, IsInteger, IsQuery};
-ghost use Rattle.vortex_select.specs.declared.selection.Query.{Query};
-ghost use Rattle.vortex_select.specs.declared.selection.Operator.{Operator};
+ghost use Rattle.vortex_select.specs.declared.words.Query.{Query};
+ghost use Rattle.vortex_value.specs.declared.operator.Operator.{Operator};
 
-use crate::selection::{Operator, Query};
+use vortex_value::Operator;
 
-/// What the words ask for.
-pub(crate) fn query(words: &[String]) -> Option<Query>
+/// The rows that bear an operator to a constant.
+#[derive(Clone, Copy, Debug, PartialEq, Eq)]
+pub struct Query {
+    pub operator: Operator,
+    pub constant: i64,
+}
+
+/// What the words ask for, and nothing where they are others.
+pub(crate) fn query_of(words: &[String]) -> Option<Query>
     ensures found { IfSome result (IsQuery (texts words.now)) }
     ensures none { IfNone result ((query : Query) → IsQuery (texts words.now) query → ⊥) }
 {
@@ -39,8 +46,10 @@ fn operator_named(word: &str) -> Option<Operator>
 }
 
 fn constant_of(word: &str) -> Option<i64>
-    ensures found { IfSome result (λ n. (text : List ℕ) × (word.now ≡ codes "i64:" ++ text) × IsInteger text n) }
-    ensures none { IfNone result ((text : List ℕ) (n : ℤ) → word.now ≡ codes "i64:" ++ text → IsInteger text n → ⊥) }
+    ensures found { IfSome result (λ n.
+        (text : List ℕ) × (word.now ≡ codes "i64:" ++ text) × IsInteger text n) }
+    ensures none { IfNone result ((text : List ℕ) (n : ℤ)
+        → word.now ≡ codes "i64:" ++ text → IsInteger text n → ⊥) }
 {
     integer(word.strip_prefix("i64:")?)
 }

@@ -23,7 +23,8 @@ abbrev mutual
   term_eq (binary n) (binary m) = beq n m
   term_eq (structure fs n) (structure gs m) = beq n m && fields_eq fs gs
   term_eq (list t n) (list u m) = beq n m && term_eq t u
-  term_eq (extension id t m) (extension jd u l) = bytes_eq id jd && option_eq bytes_eq m l && term_eq t u
+  term_eq (extension id t m) (extension jd u l) =
+      bytes_eq id jd && option_eq bytes_eq m l && term_eq t u
   term_eq (fixed_size_list t k n) (fixed_size_list u l m) = beq n m && nat_eq k l && term_eq t u
   term_eq _ _ = false
 

@@ -2,13 +2,13 @@
 --     InRange k z     the number lies in the range of the kind
 --     Fits t r        r is a row of the type t
 --     row_form t      the form that each row of the type has that is not null
-use Rattle.std.specs.Prelude.{◌≡◌, ℕ, ℤ, FitsSigned}
+use Rattle.std.specs.Prelude.{◌≡◌, ℤ, FitsSigned}
 use Rattle.std.specs.Int.{FitsUnsigned, w8, w16, w32, w64, w128}
 use Rattle.std.specs.Bool.{IsTrue}
 use Rattle.std.specs.Str.{IsUtf8}
 use Rattle.vortex_terms.specs.Term.{WholeKind, unsigned_8, unsigned_16, unsigned_32, unsigned_64, signed_8, signed_16, signed_32, signed_64, Term, null, boolean, primitive, decimal, utf8, binary, structure, list, extension, fixed_size_list, Fields, no_fields, field}
 use Rattle.vortex_terms.specs.Types.{IsBytes}
-use Rattle.vortex_terms.specs.Row.{Row, null_row, truth_row, whole_row, bytes_row, list_row, Rows, no_rows, row, row_count, AllRows}
+use Rattle.vortex_terms.specs.Row.{Row, null_row, truth_row, whole_row, bytes_row, list_row, Rows, no_rows, row, row_count, AllRows, Form, null_form, truth_form, whole_form, bytes_form, list_form}
 
 -- the number lies in the range of Rust's integer type
 abbrev pub InRange : WholeKind → ℤ → Type 0
@@ -51,15 +51,15 @@ abbrev mutual
   FitsFields (field x t fs) (row r rs) = Fits t r × FitsFields fs rs
   FitsFields _ _ = ⊥
 
--- the number of the form that each row of the type has that is not null
-abbrev pub row_form : Term → ℕ
-row_form null = 0
-row_form (boolean n) = 1
-row_form (primitive k n) = 2
-row_form (decimal p s n) = 2
-row_form (utf8 n) = 3
-row_form (binary n) = 3
-row_form (structure fs n) = 4
-row_form (list t n) = 4
+-- the form that each row of the type has that is not null
+abbrev pub row_form : Term → Form
+row_form null = null_form
+row_form (boolean n) = truth_form
+row_form (primitive k n) = whole_form
+row_form (decimal p s n) = whole_form
+row_form (utf8 n) = bytes_form
+row_form (binary n) = bytes_form
+row_form (structure fs n) = list_form
+row_form (list t n) = list_form
 row_form (extension id t m) = row_form t
-row_form (fixed_size_list t k n) = 4
+row_form (fixed_size_list t k n) = list_form

@@ -1,4 +1,5 @@
--- The laws of the order of rows: it is total, says Equal exactly of a row and itself, puts null first, and is Rust's order on what rows hold.
+-- The laws of the order of rows: it is total, says Equal exactly of a row and itself, puts null
+-- first, and is Rust's order on what rows hold.
 use Rattle.std.specs.Prelude.{◌≡◌, ◌≢◌, ◌<◌, ◌≤◌, ◌<ℤ◌, ℕ, pos, Bool, true, false, refl}
 use Rattle.std.specs.declared.cmp.Ordering.{Ordering}
 use Rattle.std.specs.declared.cmp.Ordering.TheVariants.{Less, Equal, Greater}
@@ -12,8 +13,8 @@ use lib.Signed.{lt_z_yes}
 use borrow.Author.Tests.{eq-eqb, lt-ltb}
 use Rattle.std.proofs.lemmas.Bool.{cases_lt}
 use Rattle.std.proofs.Common.{true≢false, ◌&&◌, subst, ⊎_elim, ap, sym, ◌∙◌, arith}
-use Rattle.vortex_terms.specs.Row.{Row, null_row, truth_row, whole_row, bytes_row, list_row, Rows, no_rows, row, row_list}
-use Rattle.vortex_terms.specs.Order.{form_of, row_cmp, rows_cmp, row_eq}
+use Rattle.vortex_terms.specs.Row.{Row, null_row, truth_row, whole_row, bytes_row, list_row, Rows, no_rows, row, row_list, form_of}
+use Rattle.vortex_terms.specs.Order.{form_number, row_cmp, rows_cmp, row_eq}
 
 -- ---- Equal is said of a row and itself alone
 
@@ -33,7 +34,8 @@ mutual
   row_cmp-Equal null_row null_row e = refl
   row_cmp-Equal (truth_row a) (truth_row b) e = ap truth_row (bool_cmp-Equal a b e)
   row_cmp-Equal (whole_row a) (whole_row b) e = ap whole_row (int_cmp-IsAntisymmetric a b e)
-  row_cmp-Equal (bytes_row a) (bytes_row b) e = ap bytes_row (slice_cmp-IsAntisymmetric nat_cmp-IsAntisymmetric a b e)
+  row_cmp-Equal (bytes_row a) (bytes_row b) e =
+      ap bytes_row (slice_cmp-IsAntisymmetric nat_cmp-IsAntisymmetric a b e)
   row_cmp-Equal (list_row rs) (list_row ss) e = ap list_row (rows_cmp-Equal rs ss e)
   row_cmp-Equal _ _ e = cc
 
@@ -41,11 +43,13 @@ mutual
   rows_cmp-Equal no_rows no_rows e = refl
   rows_cmp-Equal no_rows (row s ss) e = cc
   rows_cmp-Equal (row r rs) no_rows e = cc
-  rows_cmp-Equal (row r rs) (row s ss) e = let both = then-Equal (row_cmp r s) (rows_cmp rs ss) e in λ i. row (row_cmp-Equal r s both.0 i) (rows_cmp-Equal rs ss both.1 i)
+  rows_cmp-Equal (row r rs) (row s ss) e = let both = then-Equal (row_cmp r s) (rows_cmp rs ss)
+      e in λ i. row (row_cmp-Equal r s both.0 i) (rows_cmp-Equal rs ss both.1 i)
 
 -- ---- the other way round
 
-then-reverse : (o q : Ordering) → ordering_reverse (ordering_then o q) ≡ ordering_then (ordering_reverse o) (ordering_reverse q)
+then-reverse : (o q : Ordering)
+    → ordering_reverse (ordering_then o q) ≡ ordering_then (ordering_reverse o) (ordering_reverse q)
 then-reverse Less q = refl
 then-reverse Equal q = refl
 then-reverse Greater q = refl
@@ -63,11 +67,15 @@ mutual
   rows_cmp-reverse no_rows no_rows = refl
   rows_cmp-reverse no_rows (row s ss) = refl
   rows_cmp-reverse (row r rs) no_rows = refl
-  rows_cmp-reverse (row r rs) (row s ss) = (λ i. ordering_then (row_cmp-reverse r s i) (rows_cmp-reverse rs ss i)) ∙ sym (then-reverse (row_cmp s r) (rows_cmp ss rs))
+  rows_cmp-reverse (row r rs) (row s ss) =
+      (λ i. ordering_then (row_cmp-reverse r s i) (rows_cmp-reverse rs ss i))
+      ∙ sym (then-reverse (row_cmp s r) (rows_cmp ss rs))
 
 -- ---- less than what is less
 
-then-Less : (a b c p q r : Ordering) → (a ≡ Less → b ≡ Less → c ≡ Less) → (a ≡ Equal → c ≡ b) → (b ≡ Equal → c ≡ a) → (p ≡ Less → q ≡ Less → r ≡ Less) → ordering_then a p ≡ Less → ordering_then b q ≡ Less → ordering_then c r ≡ Less
+then-Less : (a b c p q r : Ordering) → (a ≡ Less → b ≡ Less → c ≡ Less) → (a ≡ Equal → c ≡ b)
+    → (b ≡ Equal → c ≡ a) → (p ≡ Less → q ≡ Less → r ≡ Less) → ordering_then a p ≡ Less
+    → ordering_then b q ≡ Less → ordering_then c r ≡ Less
 then-Less Less Less c p q r f g h k l m = rw (f refl refl) refl
 then-Less Less Equal c p q r f g h k l m = rw (h refl) refl
 then-Less Equal Less c p q r f g h k l m = rw (g refl) refl
@@ -76,8 +84,12 @@ then-Less Less Greater c p q r f g h k l m = cc
 then-Less Equal Greater c p q r f g h k l m = cc
 then-Less Greater b c p q r f g h k l m = cc
 
+-- the place of a row's form in the order
+abbrev place_of_form : Row → ℕ
+place_of_form r = form_number (form_of r)
+
 -- what is less has no later form
-form-rises : (r s : Row) → row_cmp r s ≡ Less → form_of r ≤ form_of s
+form-rises : (r s : Row) → row_cmp r s ≡ Less → place_of_form r ≤ place_of_form s
 form-rises null_row null_row h = omega arith
 form-rises (truth_row a) (truth_row b) h = omega arith
 form-rises (whole_row a) (whole_row b) h = omega arith
@@ -86,7 +98,7 @@ form-rises (list_row rs) (list_row ss) h = omega arith
 form-rises _ _ h = first_of (cc, omega arith)
 
 -- and what has an earlier form is less
-form-Less : (r s : Row) → form_of r < form_of s → row_cmp r s ≡ Less
+pub form-Less : (r s : Row) → form_number (form_of r) < form_number (form_of s) → row_cmp r s ≡ Less
 form-Less null_row null_row h = absurd (omega arith)
 form-Less (truth_row a) (truth_row b) h = absurd (omega arith)
 form-Less (whole_row a) (whole_row b) h = absurd (omega arith)
@@ -96,19 +108,23 @@ form-Less _ _ h = first_of (cc, grind arith)
 
 -- whether the three rows have one form
 abbrev is_one_form : Row → Row → Row → Bool
-is_one_form r s t = eqb (form_of r) (form_of s) && eqb (form_of s) (form_of t)
+is_one_form r s t =
+    eqb (place_of_form r) (place_of_form s) && eqb (place_of_form s) (place_of_form t)
 
 one_form : (a b c : ℕ) → a ≡ b → b ≡ c → eqb a b && eqb b c ≡ true
 one_form a b c e f = rw (eq-eqb a b e, eq-eqb b c f) refl
 
 -- rows that are not of one form are in order by their forms
-forms-trans : (r s t : Row) → is_one_form r s t ≡ false → row_cmp r s ≡ Less → row_cmp s t ≡ Less → row_cmp r t ≡ Less
+forms-trans : (r s t : Row) → is_one_form r s t ≡ false → row_cmp r s ≡ Less → row_cmp s t ≡ Less
+    → row_cmp r t ≡ Less
 forms-trans r s t other h k =
     let up = form-rises r s h in
     let next = form-rises s t k in
     ⊎_elim (λ below. form-Less r t below)
-    (λ above. absurd (true≢false (sym (one_form (form_of r) (form_of s) (form_of t) (omega arith) (omega arith)) ∙ other)))
-    (cases_lt (form_of r) (form_of t))
+    (λ above. absurd (true≢false
+    (sym (one_form (place_of_form r) (place_of_form s) (place_of_form t) (omega arith)
+    (omega arith)) ∙ other)))
+    (cases_lt (place_of_form r) (place_of_form t))
 
 Equal-is_not_Less : Equal ≡ Less → ⊥
 Equal-is_not_Less e = cc
@@ -122,10 +138,12 @@ mutual
   row_cmp-trans (list_row rs) (list_row ss) (list_row ts) h k = rows_cmp-trans rs ss ts h k
   row_cmp-trans r s t h k = forms-trans r s t refl h k
 
-  rows_cmp-trans : (rs ss ts : Rows) → rows_cmp rs ss ≡ Less → rows_cmp ss ts ≡ Less → rows_cmp rs ts ≡ Less
+  rows_cmp-trans : (rs ss ts : Rows) → rows_cmp rs ss ≡ Less → rows_cmp ss ts ≡ Less
+      → rows_cmp rs ts ≡ Less
   rows_cmp-trans no_rows (row s ss) (row t ts) h k = refl
   rows_cmp-trans (row r rs) (row s ss) (row t ts) h k =
-      then-Less (row_cmp r s) (row_cmp s t) (row_cmp r t) (rows_cmp rs ss) (rows_cmp ss ts) (rows_cmp rs ts)
+      then-Less (row_cmp r s) (row_cmp s t) (row_cmp r t) (rows_cmp rs ss) (rows_cmp ss ts)
+      (rows_cmp rs ts)
       (row_cmp-trans r s t)
       (λ e. ap (λ x. row_cmp x t) (row_cmp-Equal r s e))
       (λ e. ap (λ x. row_cmp r x) (sym (row_cmp-Equal s t e)))
@@ -153,7 +171,10 @@ pub row_cmp-itself : (r : Row) → row_cmp r r ≡ Equal
 row_cmp-itself r = tied_itself row_cmp_total r
 
 pub row_eq-Decides : (r s : Row) → Decides (row_eq r s) (r ≡ s)
-row_eq-Decides r s = (λ e. row_cmp-Equal r s ((Equal-is (row_cmp r s)).0 e), λ e. ap (λ x. is_eq (row_cmp r x)) (sym e) ∙ ap is_eq (row_cmp-itself r))
+row_eq-Decides r s = (
+  λ e. row_cmp-Equal r s ((Equal-is (row_cmp r s)).0 e),
+  λ e. ap (λ x. is_eq (row_cmp r x)) (sym e) ∙ ap is_eq (row_cmp-itself r),
+)
 
 -- null comes first
 pub row_cmp-null : (r : Row) → r ≢ null_row → row_cmp null_row r ≡ Less
@@ -164,7 +185,8 @@ row_cmp-null (bytes_row bs) n = refl
 row_cmp-null (list_row rs) n = refl
 
 -- lists of rows compare as slices do
-pub rows_cmp-slices : (rs ss : Rows) → rows_cmp rs ss ≡ slice_cmp row_cmp (row_list rs) (row_list ss)
+pub rows_cmp-slices : (rs ss : Rows)
+    → rows_cmp rs ss ≡ slice_cmp row_cmp (row_list rs) (row_list ss)
 rows_cmp-slices no_rows no_rows = refl
 rows_cmp-slices no_rows (row s ss) = refl
 rows_cmp-slices (row r rs) no_rows = refl
@@ -172,9 +194,12 @@ rows_cmp-slices (row r rs) (row s ss) = ap (ordering_then (row_cmp r s)) (rows_c
 
 -- numbers that are not negative compare as unsigned ones do
 pub int_cmp-pos : (a b : ℕ) → int_cmp (pos a) (pos b) ≡ nat_cmp a b
-int_cmp-pos a b = sym (int_cmp_is (pos a) (pos b) (nat_cmp a b) (ranks (nat_cmp a b) (ranked a b (nat_cmp a b) refl)))
+int_cmp-pos a b =
+    sym (int_cmp_is (pos a) (pos b) (nat_cmp a b)
+    (ranks (nat_cmp a b) (ranked a b (nat_cmp a b) refl)))
   where
-    ranks : (o : Ordering) → MatchOrdering o (a < b) (a ≡ b) (b < a) → MatchOrdering o (pos a <ℤ pos b) (pos a ≡ pos b) (pos b <ℤ pos a)
+    ranks : (o : Ordering) → MatchOrdering o (a < b) (a ≡ b) (b < a)
+        → MatchOrdering o (pos a <ℤ pos b) (pos a ≡ pos b) (pos b <ℤ pos a)
     ranks Less h = lt_z_yes (subst T (sym (lt-ltb a b h)) tt)
     ranks Equal h = ap pos h
     ranks Greater h = lt_z_yes (subst T (sym (lt-ltb b a h)) tt)

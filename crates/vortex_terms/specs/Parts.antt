@@ -2,11 +2,11 @@
 --     columns, column       the columns of a struct's fields
 --     parts t rs            the types and rows of the columns directly inside a column
 --     passes t rs           whether the column, or one inside it, is too large to be laid out
-use Rattle.std.specs.Prelude.{ℕ, ◌+◌, ◌*◌, Bool, false, ◌||◌, nat_lt, List, [], ◌∷◌, map, length, replicate}
+use Rattle.std.specs.Prelude.{ℕ, ◌+◌, ◌*◌, Bool, false, ◌||◌, nat_lt, List, [], ◌∷◌, ◌++◌, map, length}
 use Rattle.std.specs.List.{flat_map, sum_by}
 use Rattle.std.specs.Option.{unwrap_or}
 use Rattle.vortex_terms.specs.Term.{Term, utf8, binary, structure, list, extension, fixed_size_list, Fields, no_fields, field}
-use Rattle.vortex_terms.specs.Row.{Row, bytes_row, list_row, row_list, row_at}
+use Rattle.vortex_terms.specs.Row.{Row, bytes_row, list_row, row_list, row_at, copies}
 use Rattle.vortex_terms.specs.Default.{default_row}
 use Rattle.vortex_terms.specs.Distinct.{distinct}
 
@@ -32,7 +32,7 @@ inner_rows _ = []
 -- the rows inside a row of a list of k, and k defaults for null
 abbrev pub fixed_inner_rows : Term → ℕ → Row → List Row
 fixed_inner_rows t k (list_row rs) = row_list rs
-fixed_inner_rows t k _ = replicate k (default_row t)
+fixed_inner_rows t k _ = copies k (default_row t)
 
 -- the types and rows of the columns directly inside a column
 abbrev pub parts : Term → List Row → List (Term × List Row)
@@ -41,6 +41,11 @@ parts (list t n) rs = (t, flat_map inner_rows rs) ∷ []
 parts (extension id t m) rs = (t, rs) ∷ []
 parts (fixed_size_list t k n) rs = (t, flat_map (fixed_inner_rows t k) rs) ∷ []
 parts _ rs = []
+
+-- the columns at each place, one behind the other
+abbrev pub parts_append : List (Term × List Row) → List (Term × List Row) → List (Term × List Row)
+parts_append (p ∷ ps) (q ∷ qs) = (p.0, p.1 ++ q.1) ∷ parts_append ps qs
+parts_append _ _ = []
 
 -- how many bytes the row has
 abbrev pub byte_count : Row → ℕ
@@ -53,9 +58,13 @@ size_of (utf8 n) rs = 16 * length rs + sum_by byte_count (distinct rs)
 size_of (binary n) rs = 16 * length rs + sum_by byte_count (distinct rs)
 size_of _ rs = 16 * length rs
 
--- whether the size is above the greatest number of 32 bits
+-- the limit on sizes: the greatest number of 32 bits
+abbrev pub most_size : ℕ
+most_size = 4294967295
+
+-- whether the size is above the limit
 abbrev pub is_large : Term → List Row → Bool
-is_large t rs = nat_lt 4294967295 (size_of t rs)
+is_large t rs = nat_lt most_size (size_of t rs)
 
 -- whether the column, or one inside it, is too large
 abbrev mutual
@@ -63,7 +72,8 @@ abbrev mutual
   passes (structure fs n) rs = is_large (structure fs n) rs || fields_pass fs 0 rs
   passes (list t n) rs = is_large (list t n) rs || passes t (flat_map inner_rows rs)
   passes (extension id t m) rs = is_large (extension id t m) rs || passes t rs
-  passes (fixed_size_list t k n) rs = is_large (fixed_size_list t k n) rs || passes t (flat_map (fixed_inner_rows t k) rs)
+  passes (fixed_size_list t k n) rs =
+      is_large (fixed_size_list t k n) rs || passes t (flat_map (fixed_inner_rows t k) rs)
   passes t rs = is_large t rs
 
   -- the same of the columns of fields, the first being field i

@@ -3,8 +3,11 @@
 --     row_list, rows_from    the rows inside a list as a list, and back
 --     row_count, row_at      how many there are, and the one at a place
 --     is_null, AllRows       a test, and a fact of each row inside a list
--- A struct's row lists its fields' rows. A text's row is its bytes, a decimal's its number without the point, and an extension's that of its storage.
-use Rattle.std.specs.Prelude.{ℕ, zero, suc, ℤ, Bool, true, false, List, [], ◌∷◌, Option, Some, None}
+--     Form, form_of          the five forms of rows, and that of a row
+--     copies                 as many rows alike
+-- A struct's row lists its fields' rows. A text's row is its bytes, a decimal's its number without
+-- the point, and an extension's that of its storage.
+use Rattle.std.specs.Prelude.{ℕ, zero, suc, ℤ, Bool, true, false, List, [], ◌∷◌, replicate, Option, Some, None}
 
 mutual
   pub data Row : Type 0 where
@@ -48,3 +51,22 @@ is_null _ = false
 abbrev pub AllRows : (Row → Type 0) → Rows → Type 0
 AllRows P no_rows = Unit {0}
 AllRows P (row r rs) = P r × AllRows P rs
+
+-- the form of a row
+pub data Form : Type 0 where
+  null_form : Form
+  truth_form : Form
+  whole_form : Form
+  bytes_form : Form
+  list_form : Form
+
+abbrev pub form_of : Row → Form
+form_of null_row = null_form
+form_of (truth_row b) = truth_form
+form_of (whole_row z) = whole_form
+form_of (bytes_row bs) = bytes_form
+form_of (list_row rs) = list_form
+
+-- k rows, each of which is r; it is opened only where it is named, since k may be large
+unfoldable pub copies : ℕ → Row → List Row
+copies k r = replicate k r

@@ -1,8 +1,10 @@
--- The laws of rows: which form a type's rows have, that a default fits, and what is found at a path.
+-- The laws of rows: which form a type's rows have, that a default fits, and what is found at a
+-- path.
 --     AllRows-list, rows_from-list, ..     the rows inside a list, as a list
 --     Fits-form                            a row that is not null has the form of its type
 --     default-fits                         a default fits its type
---     value_at-null, value_at-fits         what a path finds in a null; what it finds is null or fits the target
+--     value_at-null, value_at-fits         what a path finds in a null; what it finds is null or
+--         fits the target
 use Rattle.std.specs.Prelude.{◌≡◌, ℕ, zero, suc, pos, true, false, List, [], ◌∷◌, length, replicate, Option, Some, None, ◌⊎◌, refl}
 use Rattle.std.specs.Bool.{IsTrue}
 use Rattle.std.specs.List.{AllByRecursion}
@@ -11,10 +13,9 @@ use Rattle.std.specs.Str.{IsUtf8}
 use Rattle.std.proofs.Common.{lit<, ap, sym, ◌∙◌, subst, arith, inl, inr, ⊎_elim}
 use Rattle.vortex_terms.specs.Term.{WholeKind, unsigned_8, unsigned_16, unsigned_32, unsigned_64, signed_8, signed_16, signed_32, signed_64, Term, null, boolean, primitive, decimal, utf8, binary, structure, list, extension, fixed_size_list, Fields, no_fields, field}
 use Rattle.vortex_terms.specs.Types.{IsBytes, nullable, storage_of, place_of, field_at}
-use Rattle.vortex_terms.specs.Row.{Row, null_row, truth_row, whole_row, bytes_row, list_row, Rows, no_rows, row, row_list, rows_from, row_count, row_at, AllRows}
+use Rattle.vortex_terms.specs.Row.{Row, null_row, truth_row, whole_row, bytes_row, list_row, Rows, no_rows, row, row_list, rows_from, row_count, row_at, AllRows, form_of, copies}
 use Rattle.vortex_terms.specs.Fits.{InRange, Fits, FitsFields, row_form}
 use Rattle.vortex_terms.specs.Default.{default_row, default_rows}
-use Rattle.vortex_terms.specs.Order.{form_of}
 use Rattle.vortex_terms.specs.Path.{PathPart, by_name, element, named_type, named_row, target, value_at}
 
 -- ---- the rows inside a list
@@ -35,7 +36,8 @@ pub AllRows-list : (P : Row → Type 0) (rs : Rows) → AllRows P rs → AllByRe
 AllRows-list P no_rows a = tt
 AllRows-list P (row r rs) a = (a.0, AllRows-list P rs a.1)
 
-pub AllRows-from : (P : Row → Type 0) (rs : List Row) → AllByRecursion P rs → AllRows P (rows_from rs)
+pub AllRows-from : (P : Row → Type 0) (rs : List Row) → AllByRecursion P rs
+    → AllRows P (rows_from rs)
 AllRows-from P [] a = tt
 AllRows-from P (r ∷ rs) a = (a.0, AllRows-from P rs a.1)
 
@@ -55,7 +57,8 @@ Fits-form (extension id t m) r f = Fits-form t r f
 Fits-form _ _ f = absurd f
 
 -- null fits exactly the nullable types
-pub Fits-null : (t : Term) → (Fits t null_row → IsTrue (nullable t)) × (IsTrue (nullable t) → Fits t null_row)
+pub Fits-null : (t : Term)
+    → (Fits t null_row → IsTrue (nullable t)) × (IsTrue (nullable t) → Fits t null_row)
 Fits-null null = (λ f. refl, λ n. tt)
 Fits-null (boolean n) = (λ f. f, λ f. f)
 Fits-null (primitive k n) = (λ f. f, λ f. f)
@@ -85,11 +88,17 @@ IsUtf8-none = ([], (refl, refl))
 IsBytes-none : IsBytes []
 IsBytes-none k d h = absurd (omega arith)
 
-copies-count : (k : ℕ) (r : Row) → row_count (rows_from (replicate k r)) ≡ k
+pub copies-are : (k : ℕ) (r : Row) → copies k r ≡ replicate k r
+unfolding copies
+copies-are k r = refl
+
+pub copies-count : (k : ℕ) (r : Row) → row_count (rows_from (copies k r)) ≡ k
+unfolding copies
 copies-count zero r = refl
 copies-count (suc k) r = ap suc (copies-count k r)
 
-copies-all : (P : Row → Type 0) (k : ℕ) (r : Row) → P r → AllRows P (rows_from (replicate k r))
+pub copies-all : (P : Row → Type 0) (k : ℕ) (r : Row) → P r → AllRows P (rows_from (copies k r))
+unfolding copies
 copies-all P zero r h = tt
 copies-all P (suc k) r h = (h, copies-all P k r h)
 
@@ -112,7 +121,8 @@ mutual
   default-fits (list t false) = tt
   default-fits (extension id t m) = default-fits t
   default-fits (fixed_size_list t k true) = refl
-  default-fits (fixed_size_list t k false) = (copies-count k (default_row t), copies-all (Fits t) k (default_row t) (default-fits t))
+  default-fits (fixed_size_list t k false) =
+      (copies-count k (default_row t), copies-all (Fits t) k (default_row t) (default-fits t))
 
   pub defaults-fit : (fs : Fields) → FitsFields fs (default_rows fs)
   defaults-fit no_fields = tt
@@ -135,24 +145,32 @@ named_row-null (fixed_size_list t k n) part = refl
 
 pub value_at-null : (t : Term) (path : List PathPart) → value_at t null_row path ≡ null_row
 value_at-null t [] = refl
-value_at-null t (part ∷ path) = ap (λ r. value_at (unwrap_or (named_type t part) null) r path) (named_row-null t part) ∙ value_at-null (unwrap_or (named_type t part) null) path
+value_at-null t (part ∷ path) =
+    ap (λ r. value_at (unwrap_or (named_type t part) null) r path) (named_row-null t part)
+    ∙ value_at-null (unwrap_or (named_type t part) null) path
 
 -- the row at a place fits the type of the field there
-pub FitsFields-at : (fs : Fields) (rs : Rows) (i : ℕ) (t : Term) (d : Row) → FitsFields fs rs → field_at fs i ≡ Some t → Fits t (unwrap_or (row_at rs i) d)
+pub FitsFields-at : (fs : Fields) (rs : Rows) (i : ℕ) (t : Term) (d : Row) → FitsFields fs rs
+    → field_at fs i ≡ Some t → Fits t (unwrap_or (row_at rs i) d)
 FitsFields-at no_fields rs i t d f e = cc
-FitsFields-at (field x u fs) (row r rs) zero t d f e = subst (λ v. Fits v r) (ap (λ o. unwrap_or o u) e) f.0
+FitsFields-at (field x u fs) (row r rs) zero t d f e =
+    subst (λ v. Fits v r) (ap (λ o. unwrap_or o u) e) f.0
 FitsFields-at (field x u fs) (row r rs) (suc i) t d f e = FitsFields-at fs rs i t d f.1 e
 FitsFields-at (field x u fs) no_rows i t d f e = absurd f
 
-none-then : (part_path : Term → Option Term) (u : Term) → option_and_then part_path None ≡ Some u → ⊥
+none-then : (part_path : Term → Option Term) (u : Term) → option_and_then part_path None ≡ Some u
+    → ⊥
 none-then f u e = cc
 
 -- the value of a field is null or fits the field's type
-named_row-fits : (t : Term) (r : Row) (part : PathPart) (u : Term) → named_type t part ≡ Some u → Fits t r → (named_row t r part ≡ null_row) ⊎ Fits u (named_row t r part)
+named_row-fits : (t : Term) (r : Row) (part : PathPart) (u : Term) → named_type t part ≡ Some u
+    → Fits t r → (named_row t r part ≡ null_row) ⊎ Fits u (named_row t r part)
 named_row-fits (structure fs n) null_row (by_name x) u e f = inl refl
 named_row-fits (structure fs n) (list_row rs) (by_name x) u e f = by (place_of fs x) e
   where
-    by : (o : Option ℕ) → option_and_then (field_at fs) o ≡ Some u → (unwrap_or (option_and_then (row_at rs) o) null_row ≡ null_row) ⊎ Fits u (unwrap_or (option_and_then (row_at rs) o) null_row)
+    by : (o : Option ℕ) → option_and_then (field_at fs) o ≡ Some u
+        → (unwrap_or (option_and_then (row_at rs) o) null_row ≡ null_row) ⊎ Fits u
+        (unwrap_or (option_and_then (row_at rs) o) null_row)
     by None h = inl refl
     by (Some i) h = inr (FitsFields-at fs rs i u null_row f h)
 named_row-fits (structure fs n) (truth_row b) part u e f = absurd f
@@ -162,14 +180,19 @@ named_row-fits (structure fs n) _ element u e f = cc
 named_row-fits _ r part u e f = cc
 
 -- a step further, seen by the types under the names
-target-step : (t : Term) (part : PathPart) (path : List PathPart) (u : Term) → target t (part ∷ path) ≡ Some u → (v : Term) × ((named_type t part ≡ Some v) × (target v path ≡ Some u))
+pub target-step : (t : Term) (part : PathPart) (path : List PathPart) (u : Term)
+    → target t (part ∷ path) ≡ Some u
+    → (v : Term) × ((named_type t part ≡ Some v) × (target v path ≡ Some u))
 target-step t part path u e = by (named_type t part) refl
   where
-    by : (o : Option Term) → named_type t part ≡ o → (v : Term) × ((named_type t part ≡ Some v) × (target v path ≡ Some u))
-    by None h = absurd (none-then (λ v. target v path) u (ap (option_and_then (λ v. target v path)) (sym h) ∙ e))
+    by : (o : Option Term) → named_type t part ≡ o
+        → (v : Term) × ((named_type t part ≡ Some v) × (target v path ≡ Some u))
+    by None h =
+        absurd (none-then (λ v. target v path) u
+        (ap (option_and_then (λ v. target v path)) (sym h) ∙ e))
     by (Some v) h = (v, (h, ap (option_and_then (λ w. target w path)) (sym h) ∙ e))
 
-storage-fits : (t : Term) (r : Row) → Fits t r → Fits (storage_of t) r
+pub storage-fits : (t : Term) (r : Row) → Fits t r → Fits (storage_of t) r
 storage-fits (extension id t m) r f = f
 storage-fits null r f = f
 storage-fits (boolean n) r f = f
@@ -182,13 +205,17 @@ storage-fits (list t n) r f = f
 storage-fits (fixed_size_list t k n) r f = f
 
 -- what a path finds in a row of the type is null or fits the target
-pub value_at-fits : (t : Term) (r : Row) (path : List PathPart) (u : Term) → target t path ≡ Some u → Fits t r → (value_at t r path ≡ null_row) ⊎ Fits u (value_at t r path)
-value_at-fits t r [] u e f = inr (subst (λ v. Fits v r) (ap (λ o. unwrap_or o u) e) (storage-fits t r f))
+pub value_at-fits : (t : Term) (r : Row) (path : List PathPart) (u : Term) → target t path ≡ Some u
+    → Fits t r → (value_at t r path ≡ null_row) ⊎ Fits u (value_at t r path)
+value_at-fits t r [] u e f =
+    inr (subst (λ v. Fits v r) (ap (λ o. unwrap_or o u) e) (storage-fits t r f))
 value_at-fits t r (part ∷ path) u e f =
     let step = target-step t part path u e in
     let here = named_row-fits t r part step.0 step.1.0 f in
-    let next : ◌≡◌ {A = Term} step.0 (unwrap_or (named_type t part) null) = sym (ap (λ o. unwrap_or o null) step.1.0) in
-    subst (λ v. (value_at v (named_row t r part) path ≡ null_row) ⊎ Fits u (value_at v (named_row t r part) path)) next
+    let next : ◌≡◌ {A = Term} step.0 (unwrap_or (named_type t part) null) = sym
+    (ap (λ o. unwrap_or o null) step.1.0) in
+    subst (λ v. (value_at v (named_row t r part) path ≡ null_row) ⊎ Fits u
+    (value_at v (named_row t r part) path)) next
     (⊎_elim
     (λ none. inl (ap (λ s. value_at step.0 s path) none ∙ value_at-null step.0 path))
     (λ fits. value_at-fits step.0 (named_row t r part) path u step.1.1 fits)

@@ -1,4 +1,5 @@
--- What a contract sees of a logical type: a term, and of a struct's fields: a list of names and terms.
+-- What a contract sees of a logical type: a term, and of a struct's fields: a list of names and
+-- terms.
 --     WholeKind      the eight kinds of whole numbers
 --     Term, Fields   a type, and the fields of a struct in order
 -- A flag of a term says whether a row may be null. Names, ids and metadata are lists of bytes.

@@ -29,7 +29,8 @@ kind_number-inj signed_64 signed_64 e = refl
 kind_number-inj _ _ e = absurd (omega arith)
 
 abbrev pub coded_whole_kind : Coded WholeKind
-coded_whole_kind = record { code = λ k. gnum (kind_number k); inj = λ k l e. kind_number-inj k l (ap num e) }
+coded_whole_kind = record
+    { code = λ k. gnum (kind_number k); inj = λ k l e. kind_number-inj k l (ap num e) }
 
 abbrev coded_text : Coded (List ℕ)
 coded_text = coded_list coded_ℕ
@@ -42,13 +43,16 @@ abbrev mutual
   term_code null = gcons (gnum 0) gnil
   term_code (boolean n) = gcons (gnum 1) (coded_bool.code n)
   term_code (primitive k n) = gcons (gnum 2) (gcons (coded_whole_kind.code k) (coded_bool.code n))
-  term_code (decimal p s n) = gcons (gnum 3) (gcons (gnum p) (gcons (coded_ℤ.code s) (coded_bool.code n)))
+  term_code (decimal p s n) =
+      gcons (gnum 3) (gcons (gnum p) (gcons (coded_ℤ.code s) (coded_bool.code n)))
   term_code (utf8 n) = gcons (gnum 4) (coded_bool.code n)
   term_code (binary n) = gcons (gnum 5) (coded_bool.code n)
   term_code (structure fs n) = gcons (gnum 6) (gcons (fields_code fs) (coded_bool.code n))
   term_code (list t n) = gcons (gnum 7) (gcons (term_code t) (coded_bool.code n))
-  term_code (extension id t m) = gcons (gnum 8) (gcons (coded_text.code id) (gcons (term_code t) (coded_metadata.code m)))
-  term_code (fixed_size_list t k n) = gcons (gnum 9) (gcons (term_code t) (gcons (gnum k) (coded_bool.code n)))
+  term_code (extension id t m) =
+      gcons (gnum 8) (gcons (coded_text.code id) (gcons (term_code t) (coded_metadata.code m)))
+  term_code (fixed_size_list t k n) =
+      gcons (gnum 9) (gcons (term_code t) (gcons (gnum k) (coded_bool.code n)))
 
   pub fields_code : Fields → Gv
   fields_code no_fields = gnil
@@ -68,19 +72,37 @@ mutual
   pub term_code-inj : (t u : Term) → term_code t ≡ term_code u → t ≡ u
   term_code-inj null null e = refl
   term_code-inj (boolean n) (boolean m) e = λ i. boolean (coded_bool.inj n m (ap tail e) i)
-  term_code-inj (primitive k n) (primitive l m) e = λ i. primitive (coded_whole_kind.inj k l (ap (λ g. head (tail g)) e) i) (coded_bool.inj n m (ap (λ g. tail (tail g)) e) i)
-  term_code-inj (decimal p s n) (decimal q r m) e = λ i. decimal (coded_ℕ.inj p q (ap (λ g. head (tail g)) e) i) (coded_ℤ.inj s r (ap (λ g. head (tail (tail g))) e) i) (coded_bool.inj n m (ap (λ g. tail (tail (tail g))) e) i)
+  term_code-inj (primitive k n) (primitive l m) e =
+      λ i. primitive (coded_whole_kind.inj k l (ap (λ g. head (tail g)) e) i)
+      (coded_bool.inj n m (ap (λ g. tail (tail g)) e) i)
+  term_code-inj (decimal p s n) (decimal q r m) e =
+      λ i. decimal (coded_ℕ.inj p q (ap (λ g. head (tail g)) e) i)
+      (coded_ℤ.inj s r (ap (λ g. head (tail (tail g))) e) i)
+      (coded_bool.inj n m (ap (λ g. tail (tail (tail g))) e) i)
   term_code-inj (utf8 n) (utf8 m) e = λ i. utf8 (coded_bool.inj n m (ap tail e) i)
   term_code-inj (binary n) (binary m) e = λ i. binary (coded_bool.inj n m (ap tail e) i)
-  term_code-inj (structure fs n) (structure gs m) e = λ i. structure (fields_code-inj fs gs (ap (λ g. head (tail g)) e) i) (coded_bool.inj n m (ap (λ g. tail (tail g)) e) i)
-  term_code-inj (list t n) (list u m) e = λ i. list (term_code-inj t u (ap (λ g. head (tail g)) e) i) (coded_bool.inj n m (ap (λ g. tail (tail g)) e) i)
-  term_code-inj (extension id t m) (extension jd u l) e = λ i. extension (coded_text.inj id jd (ap (λ g. head (tail g)) e) i) (term_code-inj t u (ap (λ g. head (tail (tail g))) e) i) (coded_metadata.inj m l (ap (λ g. tail (tail (tail g))) e) i)
-  term_code-inj (fixed_size_list t k n) (fixed_size_list u l m) e = λ i. fixed_size_list (term_code-inj t u (ap (λ g. head (tail g)) e) i) (coded_ℕ.inj k l (ap (λ g. head (tail (tail g))) e) i) (coded_bool.inj n m (ap (λ g. tail (tail (tail g))) e) i)
+  term_code-inj (structure fs n) (structure gs m) e =
+      λ i. structure (fields_code-inj fs gs (ap (λ g. head (tail g)) e) i)
+      (coded_bool.inj n m (ap (λ g. tail (tail g)) e) i)
+  term_code-inj (list t n) (list u m) e =
+      λ i. list (term_code-inj t u (ap (λ g. head (tail g)) e) i)
+      (coded_bool.inj n m (ap (λ g. tail (tail g)) e) i)
+  term_code-inj (extension id t m) (extension jd u l) e =
+      λ i. extension (coded_text.inj id jd (ap (λ g. head (tail g)) e) i)
+      (term_code-inj t u (ap (λ g. head (tail (tail g))) e) i)
+      (coded_metadata.inj m l (ap (λ g. tail (tail (tail g))) e) i)
+  term_code-inj (fixed_size_list t k n) (fixed_size_list u l m) e =
+      λ i. fixed_size_list (term_code-inj t u (ap (λ g. head (tail g)) e) i)
+      (coded_ℕ.inj k l (ap (λ g. head (tail (tail g))) e) i)
+      (coded_bool.inj n m (ap (λ g. tail (tail (tail g))) e) i)
   term_code-inj _ _ e = absurd (omega (arith, ap (λ g. num (head g)) e))
 
   pub fields_code-inj : (fs gs : Fields) → fields_code fs ≡ fields_code gs → fs ≡ gs
   fields_code-inj no_fields no_fields e = refl
-  fields_code-inj (field x t fs) (field y u gs) e = λ i. field (coded_text.inj x y (ap head e) i) (term_code-inj t u (ap (λ g. head (tail g)) e) i) (fields_code-inj fs gs (ap (λ g. tail (tail g)) e) i)
+  fields_code-inj (field x t fs) (field y u gs) e =
+      λ i. field (coded_text.inj x y (ap head e) i)
+      (term_code-inj t u (ap (λ g. head (tail g)) e) i)
+      (fields_code-inj fs gs (ap (λ g. tail (tail g)) e) i)
   fields_code-inj _ _ e = absurd (cc)
 
 abbrev pub coded_term : Coded Term

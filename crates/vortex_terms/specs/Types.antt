@@ -1,13 +1,19 @@
 -- What is said of types.
---     nullable, storage_of       whether a row may be null; the type in which an extension's rows are stored
---     bare, Same              a type without its nullability; types that are the same apart from nullability
---     levels, nodes, text     how deep a type nests, how many types it has in it, and the bytes of its names, ids and metadata
---     Legal, Bounded          a type that can be written; one that is within the limits too, which is_within tests
---     part_types              the types directly inside a type
---     names_of, types_of, fields_from, field_count, place_of, field_at    a struct's fields as lists, and by place
+--     nullable, storage_of       whether a row may be null; the type in which an extension's rows
+--         are stored
+--     bare, Same              a type without its nullability; types that are the same apart from
+--         nullability
+--     levels, nodes, text_length      how deep a type nests, how many types it has in it, and the
+--         bytes of its names, ids and metadata
+--     Legal, Bounded          a type that can be held in memory; one that is within the limits too,
+--         which is_within tests
+--     names_of, types_of, fields_from, fields_append, field_count, place_of, field_at, field_named
+--         a struct's fields as lists, and by place
+--     part_types, part_at     the types directly inside a type, and the one at a place
+--     type_number             the number of the kind of type
 use Rattle.std.specs.Prelude.{◌≡◌, ℕ, zero, suc, ◌+◌, ◌^◌, ◌≤◌, ◌<◌, max, ℤ, pos, negsuc, ◌≤ℤ◌, Bool, true, false, if◌then◌else◌, ◌&&◌, nat_le, List, [], ◌∷◌, length, Option, Some, None, IfSome}
-use Rattle.std.specs.List.{All}
-use Rattle.std.specs.Option.{option_map, option_map_or}
+use Rattle.std.specs.List.{All, slice_get}
+use Rattle.std.specs.Option.{option_map, option_map_or, option_and_then}
 use Rattle.std.specs.Str.{IsUtf8, bytes_eq}
 use Rattle.vortex_terms.specs.Term.{Term, null, boolean, primitive, decimal, utf8, binary, structure, list, extension, fixed_size_list, Fields, no_fields, field}
 
@@ -88,23 +94,23 @@ abbrev mutual
   fields_nodes no_fields = 0
   fields_nodes (field x t fs) = nodes t + fields_nodes fs
 
--- the bytes of all names, ids and metadata in the type
+-- how many bytes the names, ids and metadata in the type have
 abbrev mutual
-  pub text : Term → ℕ
-  text null = 0
-  text (boolean n) = 0
-  text (primitive k n) = 0
-  text (decimal p s n) = 0
-  text (utf8 n) = 0
-  text (binary n) = 0
-  text (structure fs n) = fields_text fs
-  text (list t n) = text t
-  text (extension id t m) = length id + option_map_or length m 0 + text t
-  text (fixed_size_list t k n) = text t
+  pub text_length : Term → ℕ
+  text_length null = 0
+  text_length (boolean n) = 0
+  text_length (primitive k n) = 0
+  text_length (decimal p s n) = 0
+  text_length (utf8 n) = 0
+  text_length (binary n) = 0
+  text_length (structure fs n) = fields_text_length fs
+  text_length (list t n) = text_length t
+  text_length (extension id t m) = length id + option_map_or length m 0 + text_length t
+  text_length (fixed_size_list t k n) = text_length t
 
-  pub fields_text : Fields → ℕ
-  fields_text no_fields = 0
-  fields_text (field x t fs) = length x + text t + fields_text fs
+  pub fields_text_length : Fields → ℕ
+  fields_text_length no_fields = 0
+  fields_text_length (field x t fs) = length x + text_length t + fields_text_length fs
 
 -- each number is a byte
 abbrev pub IsBytes : List ℕ → Type 0
@@ -119,7 +125,8 @@ abbrev pub is_extension : Term → Bool
 is_extension (extension id t m) = true
 is_extension _ = false
 
--- the type can be written: decimals are in range, names and ids are text, sizes are below 2 to the 32nd, and no extension stores another directly
+-- the type can be held in memory: decimals are in range, names and ids are text, metadata are
+-- bytes, sizes are below 2 to the 32nd, and no extension stores another directly
 abbrev mutual
   pub Legal : Term → Type 0
   Legal null = Unit {0}
@@ -137,16 +144,27 @@ abbrev mutual
   LegalFields no_fields = Unit {0}
   LegalFields (field x t fs) = IsUtf8 x × Legal t × LegalFields fs
 
--- the type is legal and within the limits on levels, nodes and text
+-- the limits: 64 levels, a million nodes and 64 MiB of text
+abbrev pub most_levels : ℕ
+most_levels = 64
+
+abbrev pub most_nodes : ℕ
+most_nodes = 1000000
+
+abbrev pub most_text : ℕ
+most_text = 67108864
+
+-- the type is legal and within the limits
 pub record Bounded (t : Term) : Type 0 where
   pub legal : Legal t
-  pub few_levels : levels t ≤ 64
-  pub few_nodes : nodes t ≤ 1000000
-  pub little_text : text t ≤ 67108864
+  pub few_levels : levels t ≤ most_levels
+  pub few_nodes : nodes t ≤ most_nodes
+  pub little_text : text_length t ≤ most_text
 
 -- whether the type is within the limits
 abbrev pub is_within : Term → Bool
-is_within t = nat_le (levels t) 64 && nat_le (nodes t) 1000000 && nat_le (text t) 67108864
+is_within t =
+    nat_le (levels t) most_levels && nat_le (nodes t) most_nodes && nat_le (text_length t) most_text
 
 -- the names of the fields, in order
 abbrev pub names_of : Fields → List (List ℕ)
@@ -162,6 +180,11 @@ types_of (field x t fs) = t ∷ types_of fs
 abbrev pub fields_from : List (List ℕ) → List Term → Fields
 fields_from (x ∷ xs) (t ∷ ts) = field x t (fields_from xs ts)
 fields_from _ _ = no_fields
+
+-- the fields, and then others
+abbrev pub fields_append : Fields → Fields → Fields
+fields_append no_fields gs = gs
+fields_append (field x t fs) gs = field x t (fields_append fs gs)
 
 -- how many fields there are
 abbrev pub field_count : Fields → ℕ
@@ -179,6 +202,10 @@ field_at no_fields i = None
 field_at (field x t fs) zero = Some t
 field_at (field x t fs) (suc i) = field_at fs i
 
+-- the type of the first field of this name
+abbrev pub field_named : Fields → List ℕ → Option Term
+field_named fs x = option_and_then (field_at fs) (place_of fs x)
+
 -- the types directly inside a type
 abbrev pub part_types : Term → List Term
 part_types (structure fs n) = types_of fs
@@ -186,3 +213,21 @@ part_types (list t n) = t ∷ []
 part_types (extension id t m) = t ∷ []
 part_types (fixed_size_list t k n) = t ∷ []
 part_types _ = []
+
+-- the type at a place directly inside a type: field i of a struct, and at 0 the element of a list
+-- or the storage of an extension
+abbrev pub part_at : Term → ℕ → Option Term
+part_at t i = slice_get (part_types t) i
+
+-- the number of the kind of type, as it stands in flat buffers
+abbrev pub type_number : Term → ℕ
+type_number null = 1
+type_number (boolean n) = 2
+type_number (primitive k n) = 3
+type_number (decimal p s n) = 4
+type_number (utf8 n) = 5
+type_number (binary n) = 6
+type_number (structure fs n) = 7
+type_number (list t n) = 8
+type_number (extension id t m) = 9
+type_number (fixed_size_list t k n) = 10

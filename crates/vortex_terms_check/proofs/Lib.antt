@@ -1,3 +1,5 @@
+pub mod Edges
+pub mod LastRow
 pub mod Limits
 pub mod Steps
 pub mod Sums

@@ -6,7 +6,7 @@ use Rattle.vortex_terms.specs.Row.{Row, null_row, list_row, Rows, row_at}
 use Rattle.vortex_terms.specs.Types.{place_of, field_at}
 use Rattle.vortex_terms.specs.Path.{PathPart, by_name, named_type, named_row, value_at}
 use Rattle.vortex_terms.specs.RowLaws.{value_at-null}
-use Rattle.vortex_terms.specs.TermLaws.{place_of-field}
+use Rattle.vortex_terms.specs.FieldLaws.{place_of-field}
 
 -- a step that finds null
 pub null_step : (t : Term) (r : Row) (part : PathPart) (path : List PathPart) → named_row t r part ≡ null_row → null_row ≡ value_at t r (part ∷ path)

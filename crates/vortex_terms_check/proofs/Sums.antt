@@ -1,9 +1,9 @@
 -- The sum over the distinct ones of rows that begin with x, capped.
-use Rattle.std.proofs.Common.{Result, Ok, Err, IfOk, zero, ◌≢◌, ◌++◌, replicate, append_assoc, refl, ◌≡◌, ℕ, suc, ◌-◌, take, ◌+◌, ◌≤◌, min, Bool, true, false, cond, List, [], ◌∷◌, map, length, get_or, drop, arith, ap, sym, ◌∙◌}
+use Rattle.std.proofs.Common.{Result, Ok, Err, IfOk, zero, ◌≢◌, ◌++◌, append_assoc, refl, ◌≡◌, ℕ, suc, ◌-◌, take, ◌+◌, ◌≤◌, min, Bool, true, false, cond, List, [], ◌∷◌, map, length, get_or, drop, arith, ap, sym, ◌∙◌}
 use Rattle.std.proofs.Math.Seq.{take-length}
 use Rattle.std.proofs.lemmas.List.{map-append}
 use Rattle.std.specs.List.{list_any, sum_by}
-use Rattle.vortex_terms.specs.Row.{Row}
+use Rattle.vortex_terms.specs.Row.{Row, copies}
 use Rattle.vortex_terms.specs.Order.{row_eq}
 use Rattle.vortex_terms.specs.Distinct.{distinct}
 use Rattle.vortex_terms.specs.DistinctLaws.{sum_by-distinct}
@@ -31,11 +31,12 @@ module _ {A : Type 0} (g : A → Row) (f : Row → ℕ) where
       omega (arith, first)
 
 -- one copy more, in front of the others
-pub copies_more : {A : Type 0} (k : ℕ) (x : A) (xs : List A) → k ≢ 0 → (xs ++ x ∷ []) ++ replicate (k - 1) x ≡ xs ++ replicate k x
-copies_more zero x xs h = absurd (h refl)
-copies_more (suc k) x xs h = let n : suc k - 1 ≡ k = omega arith in rw (n, append_assoc) refl
+pub copies_more : (k : ℕ) (r : Row) (rs : List Row) → k ≢ 0 → (rs ++ r ∷ []) ++ copies (k - 1) r ≡ rs ++ copies k r
+unfolding copies
+copies_more zero r rs h = absurd (h refl)
+copies_more (suc k) r rs h = let n : suc k - 1 ≡ k = omega arith in rw (n, append_assoc) refl
 
 -- what a call gives that goes on after a copy was put at the end
-pub copies_step : {A E V : Type 0} (result : Result V E) (items : V → List A) (g : A → Row) (k : ℕ) (a : A) (r : Row) (out pushed : List A) → k ≢ 0 → pushed ≡ out ++ a ∷ [] → g a ≡ r → IfOk result (λ v. map g (items v) ≡ map g pushed ++ replicate (k - 1) r) → IfOk result (λ v. map g (items v) ≡ map g out ++ replicate k r)
+pub copies_step : {A E V : Type 0} (result : Result V E) (items : V → List A) (g : A → Row) (k : ℕ) (a : A) (r : Row) (out pushed : List A) → k ≢ 0 → pushed ≡ out ++ a ∷ [] → g a ≡ r → IfOk result (λ v. map g (items v) ≡ map g pushed ++ copies (k - 1) r) → IfOk result (λ v. map g (items v) ≡ map g out ++ copies k r)
 copies_step (Err e) items g k a r out pushed h p q i = tt
-copies_step (Ok v) items g k a r out pushed h p q i = i ∙ ap (λ xs. map g xs ++ replicate (k - 1) r) p ∙ rw (map-append g out (a ∷ []), q) (copies_more k r (map g out) h)
+copies_step (Ok v) items g k a r out pushed h p q i = i ∙ ap (λ xs. map g xs ++ copies (k - 1) r) p ∙ rw (map-append g out (a ∷ []), q) (copies_more k r (map g out) h)

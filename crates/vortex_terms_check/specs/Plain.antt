@@ -1,7 +1,9 @@
--- The terms that the plain types and rows stand for.
-use Rattle.std.specs.Prelude.{Option, Some, None}
+-- The terms that the plain types and rows stand for, and the relations.
+use Rattle.std.specs.Prelude.{Bool, Option, Some, None}
 use Rattle.std.specs.Borrow.{Bor}
 use Rattle.std.specs.Option.{option_map}
+use Rattle.std.specs.declared.cmp.Ordering.{Ordering}
+use Rattle.std.specs.Ordering.{is_eq, is_ne, is_lt, is_le, is_gt, is_ge}
 use Rattle.vortex_terms_check.specs.declared.plain.WholeKind.{WholeKind}
 use Rattle.vortex_terms_check.specs.declared.plain.WholeKind.TheVariants as kinds
 use Rattle.vortex_terms_check.specs.declared.plain.PlainType.{PlainType}
@@ -14,7 +16,6 @@ use Rattle.vortex_terms_check.specs.declared.plain.PlainRows.{PlainRows}
 use Rattle.vortex_terms_check.specs.declared.plain.PlainRows as inner
 use Rattle.vortex_terms_check.specs.declared.plain.PlainRelation.{PlainRelation}
 use Rattle.vortex_terms_check.specs.declared.plain.PlainRelation.TheVariants as relations
-use Rattle.vortex_terms.specs.Order as order
 use Rattle.vortex_terms.specs.Term as term
 use Rattle.vortex_terms.specs.Row as row
 
@@ -62,10 +63,11 @@ abbrev pub found : Option (Bor PlainRow) → row.Row
 found None = row.null_row
 found (Some r) = row_of r.now
 
-abbrev pub relation_of : PlainRelation → order.Relation
-relation_of relations.Equal = order.equal
-relation_of relations.NotEqual = order.not_equal
-relation_of relations.Less = order.less
-relation_of relations.AtMost = order.at_most
-relation_of relations.Greater = order.greater
-relation_of relations.AtLeast = order.at_least
+-- whether the relation holds where a row compares so to the constant
+abbrev pub holds : PlainRelation → Ordering → Bool
+holds relations.Equal o = is_eq o
+holds relations.NotEqual o = is_ne o
+holds relations.Less o = is_lt o
+holds relations.AtMost o = is_le o
+holds relations.Greater o = is_gt o
+holds relations.AtLeast o = is_ge o

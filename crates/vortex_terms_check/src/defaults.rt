@@ -1,7 +1,7 @@
 //! Copies of rows, and defaults.
 
-ghost use Rattle.std.specs.Prelude.{◌≡◌, IfOk, replicate};
-ghost use Rattle.vortex_terms.specs.Row.{rows_from};
+ghost use Rattle.std.specs.Prelude.{◌≡◌, IfOk};
+ghost use Rattle.vortex_terms.specs.Row.{rows_from, copies as term_copies};
 ghost use Rattle.vortex_terms.specs.Default.{default_row as term_default, default_rows as fields_default};
 ghost use Rattle.vortex_terms_check.specs.Plain.{term_of, fields_of, row_of, rows_of};
 
@@ -37,8 +37,9 @@ fn copy_items(alloc: Global, rs: &PlainRows) -> Result<PlainRows, AllocError>
 }
 
 /// As many copies of the row.
+#[tactic(auto, unfolding(vortex_terms::specs::Row::copies))]
 fn copies(alloc: Global, r: &PlainRow, count: u32) -> Result<PlainRows, AllocError>
-    ensures { IfOk result (λ rs. rows_of rs ≡ rows_from (replicate count (row_of r.now))) }
+    ensures { IfOk result (λ rs. rows_of rs ≡ rows_from (term_copies count (row_of r.now))) }
 {
     if count == 0 {
         return Ok(PlainRows::End);

@@ -1,12 +1,13 @@
-//! Which types can be written.
+//! Which types can be held in memory, and which are within the limits.
 
 ghost use Rattle.std.specs.Prelude.{◌≡◌, ◌↔◌, ◌<◌, ◌^◌, IfSome, IsTrue};
 ghost use Rattle.std.specs.Option.{option_map};
-ghost use Rattle.vortex_terms.specs.Types.{IsBytes, IsDecimal, is_extension as term_is_extension, Legal, LegalFields};
+ghost use Rattle.vortex_terms.specs.Types.{IsBytes, IsDecimal, is_extension as term_is_extension, Legal, LegalFields, Bounded};
 ghost use Rattle.vortex_terms_check.specs.Plain.{term_of, fields_of};
 
 use crate::plain::{PlainFields, PlainType};
 use crate::rows::{are_bytes, is_text};
+use crate::types::{levels, nodes, text_length};
 
 fn is_decimal(p: u8, s: i8) -> bool
     ensures { IsTrue result ↔ IsDecimal p s }
@@ -38,7 +39,7 @@ fn is_metadata(metadata: &Option<Vec<u8>>) -> bool
     }
 }
 
-/// Whether the type can be written.
+/// Whether the type can be held in memory.
 #[cycle(legal)]
 pub fn legal(t: &PlainType) -> bool
     ensures { IsTrue result ↔ Legal (term_of t.now) }
@@ -64,4 +65,11 @@ fn legal_fields(fields: &PlainFields) -> bool
         PlainFields::End => true,
         PlainFields::Field(name, t, rest) => is_text(name) && legal(t) && legal_fields(rest),
     }
+}
+
+/// Whether the type is within the limits too.
+pub fn bounded(t: &PlainType) -> bool
+    ensures { IsTrue result ↔ Bounded (term_of t.now) }
+{
+    levels(t) <= 64 && nodes(t) <= 1_000_000 && text_length(t) <= 67_108_864 && legal(t)
 }

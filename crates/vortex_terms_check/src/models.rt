@@ -66,7 +66,11 @@ impl Model for ByteScalar {
 
     ghost coded = { coded× coded_term coded_row };
 
-    ghost view = { λ s. (primitive unsigned_8 true, option_map_or (λ b. whole_row (pos b)) s.value null_row) };
+    ghost view = { λ s. (
+      primitive unsigned_8 true,
+      option_map_or (λ b. whole_row (pos b)) s.value
+          null_row,
+    ) };
 }
 
 impl ByteScalar {
@@ -97,7 +101,8 @@ impl Model for Flags {
 
     ghost coded = { coded_fields };
 
-    ghost view = { λ s. fields_from (map (λ x. x.items) s.names.items) (map (λ _. boolean false) s.names.items) };
+    ghost view = { λ s. fields_from (map (λ x. x.items) s.names.items) (map (λ _. boolean false)
+        s.names.items) };
 }
 
 /// A path of names.

@@ -1,13 +1,12 @@
 //! What a path finds in a row.
 
 ghost use Rattle.std.specs.Prelude.{◌≡◌, map};
-ghost use Rattle.std.specs.Option.{option_and_then, option_map, unwrap_or};
-ghost use Rattle.vortex_terms.specs.Row.{null_row, row_at};
-ghost use Rattle.vortex_terms.specs.Types.{place_of, field_at};
-ghost use Rattle.vortex_terms.specs.Order.{bears as term_bears};
+ghost use Rattle.std.specs.Option.{option_and_then, option_map};
+ghost use Rattle.vortex_terms.specs.Row.{row_at};
+ghost use Rattle.vortex_terms.specs.Types.{place_of, field_named};
 ghost use Rattle.vortex_terms.specs.Selection.{is_kept};
 ghost use Rattle.vortex_terms.specs.Path.{by_name, value_at as term_value_at};
-ghost use Rattle.vortex_terms_check.specs.Plain.{term_of, fields_of, row_of, rows_of, found, relation_of};
+ghost use Rattle.vortex_terms_check.specs.Plain.{term_of, fields_of, row_of, rows_of, found, holds};
 
 use crate::plain::{PlainFields, PlainRelation, PlainRow, PlainRows, PlainType};
 use crate::rows::compare;
@@ -15,8 +14,9 @@ use crate::types::same_text;
 use std::cmp::Ordering;
 
 /// The type of the first field of the name.
-fn type_named<'a>(fields: &'a PlainFields, name: &Vec<u8>) -> Option<&'a PlainType>
-    ensures { option_map (λ t. term_of t.now) result ≡ option_and_then (field_at (fields_of fields.entry.now)) (place_of (fields_of fields.entry.now) name.now.items) }
+pub(crate) fn type_named<'a>(fields: &'a PlainFields, name: &Vec<u8>) -> Option<&'a PlainType>
+    ensures { option_map (λ t. term_of t.now) result
+        ≡ field_named (fields_of fields.entry.now) name.now.items }
 {
     match fields {
         PlainFields::End => None,
@@ -32,7 +32,9 @@ fn type_named<'a>(fields: &'a PlainFields, name: &Vec<u8>) -> Option<&'a PlainTy
 
 /// The row of that field.
 fn row_named<'a>(fields: &PlainFields, rs: &'a PlainRows, name: &Vec<u8>) -> Option<&'a PlainRow>
-    ensures { option_map (λ r. row_of r.now) result ≡ option_and_then (row_at (rows_of rs.entry.now)) (place_of (fields_of fields.now) name.now.items) }
+    ensures { option_map (λ r. row_of r.now) result
+        ≡ option_and_then (row_at (rows_of rs.entry.now)) (place_of (fields_of fields.now)
+        name.now.items) }
 {
     match (fields, rs) {
         (PlainFields::Field(x, _, fields), PlainRows::Row(r, rest)) => {
@@ -49,7 +51,8 @@ fn row_named<'a>(fields: &PlainFields, rs: &'a PlainRows, name: &Vec<u8>) -> Opt
 /// The value at the path, and none for null.
 #[tactic(auto, using(crate::proofs::Steps::null_step, crate::proofs::Steps::no_row, crate::proofs::Steps::no_field))]
 pub fn value_at<'a>(t: &PlainType, r: &'a PlainRow, path: &[Vec<u8>]) -> Option<&'a PlainRow>
-    ensures { found result ≡ term_value_at (term_of t.now) (row_of r.entry.now) (map (λ x. by_name x.items) path.now) }
+    ensures { found result
+        ≡ term_value_at (term_of t.now) (row_of r.entry.now) (map (λ x. by_name x.items) path.now) }
 {
     let [name, rest @ ..] = path else {
         return Some(r);
@@ -70,7 +73,7 @@ pub fn value_at<'a>(t: &PlainType, r: &'a PlainRow, path: &[Vec<u8>]) -> Option<
 }
 
 fn bears(relation: PlainRelation, order: Ordering) -> bool
-    ensures { result ≡ term_bears (relation_of relation) order }
+    ensures { result ≡ holds relation order }
 {
     match relation {
         PlainRelation::Equal => order.is_eq(),
@@ -90,7 +93,9 @@ pub fn keeps(
     relation: PlainRelation,
     constant: &PlainRow,
 ) -> bool
-    ensures { result ≡ is_kept (term_of t.now) (map (λ x. by_name x.items) path.now) (relation_of relation) (row_of constant.now) (row_of r.now) }
+    ensures { result
+        ≡ is_kept (term_of t.now) (map (λ x. by_name x.items) path.now) (holds relation) (row_of
+        constant.now) (row_of r.now) }
 {
     match value_at(t, r, path) {
         None => false,

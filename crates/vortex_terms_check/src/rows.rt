@@ -1,13 +1,13 @@
 //! What is asked of rows.
 
-ghost use Rattle.std.specs.Prelude.{◌≡◌, ◌↔◌, IsTrue, IfOk, length, ℤ, ◌<◌, ◌^◌};
+ghost use Rattle.std.specs.Prelude.{◌≡◌, ◌↔◌, IsTrue, ◌<◌};
 ghost use Rattle.std.specs.Prelude.{FitsSigned};
 ghost use Rattle.std.specs.Int.{w128};
 ghost use Rattle.std.specs.Str.{IsUtf8};
-ghost use Rattle.vortex_terms.specs.Row.{is_null, AllRows, row_count};
+ghost use Rattle.vortex_terms.specs.Row.{AllRows, row_count, form_of as term_form};
 ghost use Rattle.vortex_terms.specs.Types.{IsBytes};
 ghost use Rattle.vortex_terms.specs.Fits.{Fits, FitsFields, InRange};
-ghost use Rattle.vortex_terms.specs.Order.{row_cmp, rows_cmp, row_eq, form_of as term_form};
+ghost use Rattle.vortex_terms.specs.Order.{row_cmp, rows_cmp, form_number};
 ghost use Rattle.vortex_terms_check.specs.Plain.{kind_of, term_of, fields_of, row_of, rows_of};
 
 use crate::plain::{PlainFields, PlainRow, PlainRows, PlainType, WholeKind};
@@ -16,7 +16,7 @@ use std::cmp::Ordering;
 
 /// The place of the row's form among the five.
 fn form_of(r: &PlainRow) -> u8
-    ensures { result ≡ term_form (row_of r.now) }
+    ensures { result ≡ form_number (term_form (row_of r.now)) }
 {
     match r {
         PlainRow::Null => 0,

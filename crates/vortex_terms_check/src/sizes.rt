@@ -1,9 +1,9 @@
 //! The columns inside a column, and the size rule.
 
-ghost use Rattle.std.specs.Prelude.{◌≡◌, ◌++◌, map, min, length, replicate, IfOk};
+ghost use Rattle.std.specs.Prelude.{◌≡◌, ◌++◌, map, min, IfOk};
 ghost use Rattle.std.specs.List.{list_any, sum_by, flat_map};
 ghost use Rattle.std.specs.Option.{option_map};
-ghost use Rattle.vortex_terms.specs.Row.{row_at, row_list};
+ghost use Rattle.vortex_terms.specs.Row.{row_at, row_list, copies};
 ghost use Rattle.vortex_terms.specs.Order.{row_eq};
 ghost use Rattle.vortex_terms.specs.Distinct.{distinct};
 ghost use Rattle.vortex_terms.specs.Parts.{byte_count as term_byte_count, size_of as term_size, is_large as term_is_large, field_row as term_field_row, column as term_column, inner_rows, fixed_inner_rows, passes as term_passes, fields_pass as columns_pass};
@@ -14,7 +14,7 @@ use crate::plain::{PlainFields, PlainRow, PlainRows, PlainType};
 use crate::rows::compare;
 use std::alloc::{AllocError, Global};
 
-fn stands(r: &PlainRow, rows: &[PlainRow]) -> bool
+pub(crate) fn stands(r: &PlainRow, rows: &[PlainRow]) -> bool
     ensures { result ≡ list_any (row_eq (row_of r.now)) (map row_of rows.now) }
 {
     match rows {
@@ -96,7 +96,8 @@ fn column_onto(
     rows: &[PlainRow],
     mut out: Vec<PlainRow>,
 ) -> Result<Vec<PlainRow>, AllocError>
-    ensures { IfOk result (λ v. map row_of v.items ≡ map row_of out.items ++ term_column (term_of t.now) i (map row_of rows.now)) }
+    ensures { IfOk result (λ v. map row_of v.items ≡ map row_of out.items
+        ++ term_column (term_of t.now) i (map row_of rows.now)) }
 {
     match rows {
         [] => Ok(out),
@@ -113,7 +114,8 @@ fn items_onto(
     rs: &PlainRows,
     mut out: Vec<PlainRow>,
 ) -> Result<Vec<PlainRow>, AllocError>
-    ensures { IfOk result (λ v. map row_of v.items ≡ map row_of out.items ++ row_list (rows_of rs.now)) }
+    ensures { IfOk result (λ v. map row_of v.items ≡ map row_of out.items
+        ++ row_list (rows_of rs.now)) }
 {
     match rs {
         PlainRows::End => Ok(out),
@@ -130,7 +132,8 @@ fn inner_onto(
     rows: &[PlainRow],
     out: Vec<PlainRow>,
 ) -> Result<Vec<PlainRow>, AllocError>
-    ensures { IfOk result (λ v. map row_of v.items ≡ map row_of out.items ++ flat_map inner_rows (map row_of rows.now)) }
+    ensures { IfOk result (λ v. map row_of v.items ≡ map row_of out.items
+        ++ flat_map inner_rows (map row_of rows.now)) }
 {
     match rows {
         [] => Ok(out),
@@ -140,13 +143,15 @@ fn inner_onto(
 }
 
 /// The rows, and then as many copies of a row.
+#[tactic(auto, unfolding(vortex_terms::specs::Row::copies))]
 fn copies_onto(
     alloc: Global,
     r: &PlainRow,
     k: u32,
     mut out: Vec<PlainRow>,
 ) -> Result<Vec<PlainRow>, AllocError>
-    ensures { IfOk result (λ v. map row_of v.items ≡ map row_of out.items ++ replicate k (row_of r.now)) }
+    ensures { IfOk result (λ v. map row_of v.items ≡ map row_of out.items
+        ++ copies k (row_of r.now)) }
 {
     if k == 0 {
         return Ok(out);
@@ -163,7 +168,8 @@ fn fixed_row_onto(
     r: &PlainRow,
     out: Vec<PlainRow>,
 ) -> Result<Vec<PlainRow>, AllocError>
-    ensures { IfOk result (λ v. map row_of v.items ≡ map row_of out.items ++ fixed_inner_rows (term_of t.now) k (row_of r.now)) }
+    ensures { IfOk result (λ v. map row_of v.items ≡ map row_of out.items
+        ++ fixed_inner_rows (term_of t.now) k (row_of r.now)) }
 {
     match r {
         PlainRow::Items(rs) => items_onto(alloc, rs, out),
@@ -182,7 +188,8 @@ fn fixed_onto(
     rows: &[PlainRow],
     out: Vec<PlainRow>,
 ) -> Result<Vec<PlainRow>, AllocError>
-    ensures { IfOk result (λ v. map row_of v.items ≡ map row_of out.items ++ flat_map (fixed_inner_rows (term_of t.now) k) (map row_of rows.now)) }
+    ensures { IfOk result (λ v. map row_of v.items ≡ map row_of out.items
+        ++ flat_map (fixed_inner_rows (term_of t.now) k) (map row_of rows.now)) }
 {
     match rows {
         [] => Ok(out),
@@ -221,7 +228,8 @@ fn column_passes(
     i: u64,
     rows: &[PlainRow],
 ) -> Result<bool, AllocError>
-    ensures { IfOk result (λ b. b ≡ term_passes (term_of t.now) (term_column (term_of t.now) i (map row_of rows.now))) }
+    ensures { IfOk result (λ b. b
+        ≡ term_passes (term_of t.now) (term_column (term_of t.now) i (map row_of rows.now))) }
 {
     let column = column_onto(alloc, t, i, rows, Vec::new(alloc))?;
     passes(alloc, t, &column)

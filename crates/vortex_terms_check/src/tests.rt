@@ -1,13 +1,13 @@
 use crate::plain::{PlainFields, PlainRelation, PlainRow, PlainRows, PlainType, WholeKind};
 use crate::{
-    compare, default_row, fits, keeps, legal, levels, nodes, nullable, passes, same, size_of, text,
-    value_at,
+    compare, default_row, fits, keeps, legal, levels, nodes, nullable, passes, same, size_of,
+    text_length, value_at,
 };
 use std::alloc::{AllocError, Global};
 use std::cmp::Ordering;
 use std::test::Fail;
 
-fn field(
+pub(crate) fn field(
     alloc: Global,
     name: &str,
     t: PlainType,
@@ -25,22 +25,22 @@ fn row(alloc: Global, r: PlainRow, rest: PlainRows) -> Result<PlainRows, AllocEr
     Ok(PlainRows::Row(r, rest))
 }
 
-fn list_of(alloc: Global, t: PlainType) -> Result<PlainType, AllocError> {
+pub(crate) fn list_of(alloc: Global, t: PlainType) -> Result<PlainType, AllocError> {
     Ok(PlainType::ListOf(Box::new(alloc, t)?, false))
 }
 
-fn fixed(alloc: Global, t: PlainType, k: u32, n: bool) -> Result<PlainType, AllocError> {
+pub(crate) fn fixed(alloc: Global, t: PlainType, k: u32, n: bool) -> Result<PlainType, AllocError> {
     Ok(PlainType::FixedSizeList(Box::new(alloc, t)?, k, n))
 }
 
-fn extension(alloc: Global, t: PlainType) -> Result<PlainType, AllocError> {
+pub(crate) fn extension(alloc: Global, t: PlainType) -> Result<PlainType, AllocError> {
     let id = Vec::from_slice(alloc, b"x")?;
     let metadata = Vec::from_slice(alloc, &[4])?;
     Ok(PlainType::Extension(id, Box::new(alloc, t)?, Some(metadata)))
 }
 
 /// The struct `{a=i32, a=utf8}`, nullable or not.
-fn two_of_a_name(alloc: Global, n: bool) -> Result<PlainType, AllocError> {
+pub(crate) fn two_of_a_name(alloc: Global, n: bool) -> Result<PlainType, AllocError> {
     let second = field(alloc, "a", PlainType::Utf8(false), PlainFields::End)?;
     let both = field(
         alloc,
@@ -51,15 +51,15 @@ fn two_of_a_name(alloc: Global, n: bool) -> Result<PlainType, AllocError> {
     Ok(PlainType::Struct(both, n))
 }
 
-fn bytes(alloc: Global, text: &[u8]) -> Result<PlainRow, AllocError> {
+pub(crate) fn bytes(alloc: Global, text: &[u8]) -> Result<PlainRow, AllocError> {
     Ok(PlainRow::Bytes(Vec::from_slice(alloc, text)?))
 }
 
-fn one(alloc: Global, r: PlainRow) -> Result<PlainRow, AllocError> {
+pub(crate) fn one(alloc: Global, r: PlainRow) -> Result<PlainRow, AllocError> {
     Ok(PlainRow::Items(row(alloc, r, PlainRows::End)?))
 }
 
-fn two(alloc: Global, r: PlainRow, s: PlainRow) -> Result<PlainRow, AllocError> {
+pub(crate) fn two(alloc: Global, r: PlainRow, s: PlainRow) -> Result<PlainRow, AllocError> {
     let second = row(alloc, s, PlainRows::End)?;
     Ok(PlainRow::Items(row(alloc, r, second)?))
 }
@@ -234,7 +234,7 @@ fn defaults_are_those_of_the_types(rt: HostRuntime) -> Result<(), Fail> {
     Ok(())
 }
 
-fn names(alloc: Global, parts: &[&[u8]]) -> Result<Vec<Vec<u8>>, AllocError> {
+pub(crate) fn names(alloc: Global, parts: &[&[u8]]) -> Result<Vec<Vec<u8>>, AllocError> {
     let mut made = Vec::new(alloc);
     for part in parts {
         made.push(Vec::from_slice(alloc, part)?)?;
@@ -285,11 +285,11 @@ fn types_are_measured(rt: HostRuntime) -> Result<(), Fail> {
     let pair = two_of_a_name(alloc, false)?;
     assert_eq!(rt; levels(&pair), 2);
     assert_eq!(rt; nodes(&pair), 3);
-    assert_eq!(rt; text(&pair), 2);
+    assert_eq!(rt; text_length(&pair), 2);
     let stored = extension(alloc, PlainType::Utf8(false))?;
     assert_eq!(rt; levels(&stored), 2);
     assert_eq!(rt; nodes(&stored), 2);
-    assert_eq!(rt; text(&stored), 2);
+    assert_eq!(rt; text_length(&stored), 2);
     assert!(rt; same(&pair, &two_of_a_name(alloc, true)?));
     assert!(rt; !same(&pair, &stored));
     assert!(rt;

@@ -1,15 +1,14 @@
 //! What is asked of types.
 
-ghost use Rattle.std.specs.Prelude.{◌≡◌, min, ◌↔◌, IsTrue};
-ghost use Rattle.vortex_terms.specs.Types.{nullable as term_nullable, levels as term_levels, nodes as term_nodes, text as term_text, fields_levels, fields_nodes, fields_text};
+ghost use Rattle.std.specs.Prelude.{◌≡◌, min};
+ghost use Rattle.vortex_terms.specs.Types.{nullable as term_nullable, levels as term_levels, nodes as term_nodes, text_length as term_text_length, fields_levels, fields_nodes, fields_text_length};
 ghost use Rattle.std.specs.Option.{option_eq, option_map};
 ghost use Rattle.std.specs.Str.{bytes_eq};
-ghost use Rattle.vortex_terms.specs.TermCode.{kind_number};
 ghost use Rattle.vortex_terms.specs.Equality.{is_same, fields_eq};
 ghost use Rattle.vortex_terms.specs.Types.{bare_fields};
-ghost use Rattle.vortex_terms_check.specs.Plain.{kind_of, term_of, fields_of};
+ghost use Rattle.vortex_terms_check.specs.Plain.{term_of, fields_of};
 
-use crate::plain::{PlainFields, PlainType, WholeKind};
+use crate::plain::{PlainFields, PlainType};
 
 /// Whether a row of the type may be null.
 pub fn nullable(t: &PlainType) -> bool
@@ -72,32 +71,32 @@ fn nodes_of_fields(fields: &PlainFields) -> u64
 }
 
 /// How many bytes its names, ids and metadata have, as far as the answer's type reaches.
-#[cycle(text)]
-pub fn text(t: &PlainType) -> usize
-    ensures { result ≡ min (term_text (term_of t.now)) usize.MAX }
+#[cycle(text_length)]
+pub fn text_length(t: &PlainType) -> usize
+    ensures { result ≡ min (term_text_length (term_of t.now)) usize.MAX }
 {
     match t {
-        PlainType::Struct(fields, _) => text_of_fields(fields),
-        PlainType::ListOf(t, _) | PlainType::FixedSizeList(t, _, _) => text(t),
-        PlainType::Extension(id, t, None) => id.len().saturating_add(text(t)),
+        PlainType::Struct(fields, _) => text_length_of_fields(fields),
+        PlainType::ListOf(t, _) | PlainType::FixedSizeList(t, _, _) => text_length(t),
+        PlainType::Extension(id, t, None) => id.len().saturating_add(text_length(t)),
         PlainType::Extension(id, t, Some(metadata)) => id
             .len()
             .saturating_add(metadata.len())
-            .saturating_add(text(t)),
+            .saturating_add(text_length(t)),
         _ => 0,
     }
 }
 
-#[cycle(text)]
-fn text_of_fields(fields: &PlainFields) -> usize
-    ensures { result ≡ min (fields_text (fields_of fields.now)) usize.MAX }
+#[cycle(text_length)]
+fn text_length_of_fields(fields: &PlainFields) -> usize
+    ensures { result ≡ min (fields_text_length (fields_of fields.now)) usize.MAX }
 {
     match fields {
         PlainFields::End => 0,
         PlainFields::Field(name, t, rest) => name
             .len()
-            .saturating_add(text(t))
-            .saturating_add(text_of_fields(rest)),
+            .saturating_add(text_length(t))
+            .saturating_add(text_length_of_fields(rest)),
     }
 }
 
@@ -108,7 +107,8 @@ pub(crate) fn same_text(a: &Vec<u8>, b: &Vec<u8>) -> bool
 }
 
 fn same_metadata(a: &Option<Vec<u8>>, b: &Option<Vec<u8>>) -> bool
-    ensures { result ≡ option_eq bytes_eq (option_map (λ v. v.items) a.now) (option_map (λ v. v.items) b.now) }
+    ensures { result
+        ≡ option_eq bytes_eq (option_map (λ v. v.items) a.now) (option_map (λ v. v.items) b.now) }
 {
     match (a, b) {
         (None, None) => true,

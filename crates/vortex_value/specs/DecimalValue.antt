@@ -1,4 +1,4 @@
--- A whole number and the width in which a decimal stores it.
+-- Values of decimals as their numbers: `width_of`, `decimal_number`, `decimal_text`.
 use Rattle.std.specs.Prelude.{ℕ, ℤ, List, ◌++◌, codes}
 use Rattle.std.specs.Int.{w8, w16, w32, w64, w128}
 use Rattle.std.specs.Fmt.{signed_decimal}

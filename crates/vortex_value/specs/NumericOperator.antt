@@ -1,7 +1,8 @@
--- The operators of arithmetic.
+-- The operators of arithmetic with their operands changed over: `swapped`, `operator_text`.
 use Rattle.std.specs.Prelude.{ℕ, List, codes}
 use Rattle.vortex_value.specs.declared.numeric_operator.NumericOperator.{NumericOperator}
-use Rattle.vortex_value.specs.declared.numeric_operator.NumericOperator.TheVariants.{Add, Sub, RSub, Mul, Div, RDiv}
+use Rattle.vortex_value.specs.declared.numeric_operator.NumericOperator.TheVariants.{Add, Sub, RSub}
+use Rattle.vortex_value.specs.declared.numeric_operator.NumericOperator.TheVariants.{Mul, Div, RDiv}
 
 -- the operator that means the same once its operands have changed places
 abbrev pub swapped : NumericOperator → NumericOperator

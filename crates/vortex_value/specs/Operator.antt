@@ -1,4 +1,4 @@
--- The relations between two values.
+-- The relations between two values: `bears`.
 use Rattle.std.specs.Prelude.{Bool}
 use Rattle.std.specs.declared.cmp.Ordering.{Ordering}
 use Rattle.std.specs.Ordering.{is_eq, is_ne, is_lt, is_le, is_gt, is_ge}

@@ -1,12 +1,14 @@
--- A whole number and its kind, as a value of one of the eight kinds is seen.
-use Rattle.std.specs.Prelude.{ℕ, ℤ, pos, List, ◌++◌, Option, Some, None, if◌then◌else◌, unsigned_abs}
+-- Values of the eight kinds as their numbers: `kind_of`, `number_of`, `value_of`, `pvalue_text`.
+use Rattle.std.specs.Prelude.{ℕ, ℤ, pos, List, ◌++◌, Option, Some, None, if◌then◌else◌}
+use Rattle.std.specs.Prelude.{unsigned_abs}
 use Rattle.std.specs.Fmt.{signed_decimal}
 use Rattle.vortex_number.specs.Format.{bits_of, number_with_bits}
 use Rattle.vortex_number.specs.PType.{format_of, in_range, ptype_text}
 use Rattle.vortex_number.specs.declared.ptype.PType.{PType}
 use Rattle.vortex_number.specs.declared.ptype.PType.TheVariants as kind
 use Rattle.vortex_value.specs.declared.pvalue.PValue.{PValue}
-use Rattle.vortex_value.specs.declared.pvalue.PValue.TheVariants.{U8, U16, U32, U64, I8, I16, I32, I64}
+use Rattle.vortex_value.specs.declared.pvalue.PValue.TheVariants.{U8, U16, U32, U64, I8, I16, I32}
+use Rattle.vortex_value.specs.declared.pvalue.PValue.TheVariants.{I64}
 
 -- the kind of a value
 abbrev pub kind_of : PValue → PType
@@ -49,10 +51,11 @@ value_bits v = bits_of (format_of (kind_of v)) (number_of v)
 abbrev pub value_with_bits : PType → ℕ → PValue
 value_with_bits k n = value_of k (number_with_bits (format_of k) n)
 
--- a number as one of a kind without a sign, where it is in the kind's range, and as one of a kind with a sign
+-- a number as one of a kind without a sign, where it is in the kind's range
 abbrev pub as_unsigned : PType → ℤ → Option ℕ
 as_unsigned k z = if in_range k z then Some (unsigned_abs z) else None
 
+-- a number as one of a kind with a sign, where it is in the kind's range
 abbrev pub as_signed : PType → ℤ → Option ℤ
 as_signed k z = if in_range k z then Some z else None
 

@@ -5,7 +5,8 @@ ghost use Rattle.std.specs.Cmp.{partial_order_from_own_ties};
 ghost use Rattle.std.specs.Cmp.Rules.{comparing};
 ghost use Rattle.std.proofs.Common.{rules};
 ghost use Rattle.vortex_number.specs.Format.{fits};
-ghost use Rattle.vortex_value.specs.DecimalValue.{width_number, width_of, decimal_number, decimal_format};
+ghost use Rattle.vortex_value.specs.DecimalValue.{width_number, width_of, decimal_number};
+ghost use Rattle.vortex_value.specs.DecimalValue.{decimal_format};
 ghost use Rattle.vortex_value.specs.declared.decimal.DecimalValueType.{DecimalValueType};
 ghost use Rattle.vortex_value.specs.declared.decimal.DecimalValueType.TheVariants as width;
 
@@ -51,7 +52,8 @@ impl DecimalValueType {
 impl PartialOrd for DecimalValueType {
     ghost partial_cmp = { as_partial_cmp (on width_number nat_cmp) };
 
-    ghost laws = { partial_order_from_own_ties (Prim.search (comparing, rules)) (Prim.search (comparing, rules)) };
+    ghost laws = { partial_order_from_own_ties
+        (Prim.search (comparing, rules)) (Prim.search (comparing, rules)) };
 
     fn partial_cmp(&self, other: &DecimalValueType) -> Option<Ordering> {
         Some(self.cmp(other))
@@ -73,7 +75,8 @@ impl Ord for DecimalValueType {
     }
 }
 
-/// The whole number that is stored for a decimal, and its width. Equality, order and hash look at the number alone.
+/// The whole number that is stored for a decimal, and its width. Equality, order and hash look at
+/// the number alone.
 #[derive(Clone, Copy, Debug)]
 pub enum DecimalValue {
     I8(i8),
@@ -126,7 +129,8 @@ pub trait NativeDecimalType: WholeNumber {
     /// The width of the type.
     const VALUES_TYPE: DecimalValueType;
 
-    /// The number of a value of this very width. A value of another width is none, whatever its number.
+    /// The number of a value of this very width. A value of another width is none, whatever its
+    /// number.
     fn maybe_from(value: DecimalValue) -> Option<Self>
         ensures { result ≡ (if width_number (width_of value) == width_number VALUES_TYPE
             then Some (Self.of_number (decimal_number value)) else None) };

@@ -77,7 +77,8 @@ pub trait NativePType: WholeNumber {
     ghost format_law: { Self.format ≡ format_of PTYPE };
 
     // The order of the numbers is a total order of the values.
-    ghost total_law: { IsTotalOrder (on Self.number int_cmp) } = { on_total Self.number int_cmp_total };
+    ghost total_law: { IsTotalOrder (on Self.number int_cmp) } = { on_total
+        Self.number int_cmp_total };
 }
 
 /// A native type beside the one of the same width without a sign.

@@ -1,8 +1,10 @@
 //! Values of the eight kinds.
-ghost use Rattle.std.specs.Prelude.{◌≡◌, ◌*◌, ◌^◌, ◌<◌, pos, ◌<ℤ◌, ◌↔◌, IsTrue, if◌then◌else◌, Some, None, Ok, Err, int_lt, unsigned_abs};
+ghost use Rattle.std.specs.Prelude.{◌≡◌, ◌*◌, ◌^◌, ◌<◌, pos, ◌<ℤ◌, ◌↔◌, IsTrue, if◌then◌else◌};
+ghost use Rattle.std.specs.Prelude.{Some, None, Ok, Err, int_lt, unsigned_abs};
 ghost use Rattle.vortex_number.specs.Format.{fits};
 ghost use Rattle.vortex_number.specs.PType.{byte_width_of};
-ghost use Rattle.vortex_value.specs.PValue.{kind_of, number_of, value_of, value_bits, value_with_bits, as_unsigned, as_signed};
+ghost use Rattle.vortex_value.specs.PValue.{kind_of, number_of, value_of, value_bits};
+ghost use Rattle.vortex_value.specs.PValue.{value_with_bits, as_unsigned, as_signed};
 ghost use Rattle.vortex_number.specs.declared.ptype.PType.TheVariants as kind;
 
 use crate::{NativePType, PType, ValueError};

@@ -5,7 +5,7 @@ use Rattle.std.proofs.lemmas.Bool.{lt-ltb, le-ltb, cases_lt, ne_eqb, lt-leb}
 use Rattle.std.proofs.lemmas.List.{length-drop, length-append, take_at, drop_at}
 use Rattle.std.proofs.lemmas.Option.{some_pair_parts, option_and_then_some, cond_some, none-some}
 use Rattle.std.specs.Prelude.{unwrap_or}
-use Rattle.vortex_wire.specs.Chain.{◌>>=◌}
+use Rattle.vortex_prelude.specs.Chain.{◌>>=◌}
 use Rattle.vortex_wire.specs.Varint.{groups_at, varint_at, varint}
 use Rattle.vortex_wire.specs.Field.{Content, Varint, Eight, Bytes, Four, Field, bytes_at, content_at, field_number, field_at, fields_in, fields_of, left_of, varint_field, bytes_field}
 use Rattle.vortex_wire.proofs.Writing.{varint_again}

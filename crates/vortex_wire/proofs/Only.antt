@@ -2,7 +2,7 @@
 use Rattle.std.proofs.Common.{◌≡◌, ℕ, Bool, List, ◌++◌, Option, None, refl}
 use Rattle.std.specs.Prelude.{filter}
 use Rattle.std.specs.Option.{option_to_list}
-use Rattle.vortex_wire.specs.Chain.{◌>>=◌}
+use Rattle.vortex_prelude.specs.Chain.{◌>>=◌}
 use Rattle.vortex_wire.specs.Field.{Field, fields_of}
 use Rattle.vortex_wire.specs.Message.{is_member, lone, only_field}
 

@@ -5,7 +5,7 @@ use Rattle.std.proofs.lemmas.Nat.{mul-le}
 use Rattle.std.proofs.lemmas.Bool.{lt-ltb, le-ltb, cases_lt}
 use Rattle.std.proofs.Math.Seq.{drop-cons}
 use Rattle.std.proofs.lemmas.List.{take_all, length-drop, nil_from_length}
-use Rattle.vortex_wire.specs.Chain.{◌>>=◌}
+use Rattle.vortex_prelude.specs.Chain.{◌>>=◌}
 use Rattle.vortex_wire.specs.Varint.{groups_at, varint_at}
 
 take_rest : (xs : List ℕ) (k : ℕ) → take (length xs - k) (drop k xs) ≡ drop k xs

@@ -90,14 +90,13 @@ unfolding singular_u32 singular_varint
 u32_of number n bytes fields h e last = rw e (rw last (ap (λ (k : ℕ). Some k) (u32_back n h)))
 
 pub truth_of : (number : ℕ) (o : Option Bool) (bytes : List ℕ) (fields : List Field) → fields_of bytes ≡ Some fields → last_varint number fields ≡ Some (kept_truth o) → optional_bool number bytes ≡ Some o
-unfolding optional_bool singular_varint
+unfolding singular_varint
 truth_of number o bytes fields e last = rw e (rw last (ap (λ (p : Option Bool). Some p) (truth_back o)))
 
 -- ---- the records
 
 dict_fields : (m : DictMetadata) → m.values_len < 2 ^ 32 → m.codes_ptype < 2 ^ 32
     → fields_of (dict_metadata_bytes m) ≡ Some (written 1 m.values_len ++ (written 2 m.codes_ptype ++ (written_truth 3 m.is_nullable_codes ++ [])))
-unfolding dict_metadata_bytes
 dict_fields m values codes =
     let third = truth_then 3 m.is_nullable_codes [] [] (omega arith) (omega arith) no_fields_in_nothing in
     let second = number_then 2 m.codes_ptype (optional_field 3 m.is_nullable_codes ++ []) _ (omega arith) (omega arith) (omega arith) third in
@@ -124,9 +123,9 @@ lone n h =
     u32_of 1 n (singular_field 1 n) _ h e (number_found 1 n [] (nothing_found 1))
 
 pub decimal_again : (m : DecimalMetadata) → m.value_type < 2 ^ 32 → decimal_metadata_of (decimal_metadata_bytes m) ≡ Some m
-unfolding decimal_metadata_of decimal_metadata_bytes
+unfolding decimal_metadata_of
 decimal_again m h = rw (lone m.value_type h) refl
 
 pub list_again : (m : ListMetadata) → m.elements < 2 ^ 32 → list_metadata_of (list_metadata_bytes m) ≡ Some m
-unfolding list_metadata_of list_metadata_bytes
+unfolding list_metadata_of
 list_again m h = rw (lone m.elements h) refl

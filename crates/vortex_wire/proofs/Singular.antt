@@ -7,7 +7,7 @@ use Rattle.vortex_wire.specs.declared.error.WireError.TheVariants.{Malformed}
 use Rattle.vortex_wire.specs.declared.field.WireField.{WireField}
 use Rattle.vortex_wire.specs.declared.field.WireValue.{WireValue}
 use Rattle.vortex_wire.specs.declared.field.WireValue.TheVariants as wire
-use Rattle.vortex_wire.specs.Chain.{◌>>=◌}
+use Rattle.vortex_prelude.specs.Chain.{◌>>=◌}
 use Rattle.vortex_wire.specs.Field.{Varint, Field, content_of, field_of, then_fields, fields_of}
 use Rattle.vortex_wire.specs.Message.{varint_in, last_varint, singular_varint}
 use Rattle.vortex_wire.proofs.FieldLaws.{no_fields_in_nothing}

@@ -5,7 +5,7 @@ use Rattle.std.proofs.lemmas.Nat.{shr_below, div_below}
 use Rattle.std.proofs.lemmas.Option.{some_pair_parts, option_and_then_some, cond_some, none-some}
 use Rattle.std.proofs.lemmas.Bool.{lt-ltb, le-ltb, cases_lt}
 use Rattle.std.proofs.lemmas.List.{take_more_set}
-use Rattle.vortex_wire.specs.Chain.{◌>>=◌}
+use Rattle.vortex_prelude.specs.Chain.{◌>>=◌}
 use Rattle.vortex_wire.specs.Varint.{groups_at, varint_at, groups_of, varint}
 
 -- The buffer has the groups that were taken off v, and left is what they left.

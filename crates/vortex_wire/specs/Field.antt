@@ -1,5 +1,8 @@
--- The fields of a message (Protocol Buffers wire format, messages without groups).
-use Rattle.std.specs.Prelude.{ℕ, zero, suc, ◌+◌, ◌*◌, ◌/◌, ◌%◌, ◌^◌, ◌==◌, ◌||◌, List, [], ◌∷◌, ◌++◌, length, take, drop, Option, Some, None, option_map, unwrap_or, Result, Ok, Err, nat_lt, nat_le, if◌then◌else◌}
+-- The fields of a message: `field_at`, `fields_of`, `varint_field`, `bytes_field`.
+-- The wire format is that of Protocol Buffers, without groups.
+use Rattle.std.specs.Prelude.{ℕ, zero, suc, ◌+◌, ◌*◌, ◌/◌, ◌%◌, ◌^◌, ◌==◌, ◌||◌, List, [], ◌∷◌}
+use Rattle.std.specs.Prelude.{◌++◌, length, take, drop, Option, Some, None, option_map, unwrap_or}
+use Rattle.std.specs.Prelude.{Result, Ok, Err, nat_lt, nat_le, if◌then◌else◌}
 use Rattle.std.specs.Option.{ok_or}
 use Rattle.std.specs.Int.{w32, w64, from_le_bytes}
 use Rattle.vortex_wire.specs.declared.error.WireError.{WireError}
@@ -7,7 +10,7 @@ use Rattle.vortex_wire.specs.declared.error.WireError.TheVariants.{Malformed}
 use Rattle.vortex_wire.specs.declared.field.WireField.{WireField}
 use Rattle.vortex_wire.specs.declared.field.WireValue.{WireValue}
 use Rattle.vortex_wire.specs.declared.field.WireValue.TheVariants as wire
-use Rattle.vortex_wire.specs.Chain.{◌>>=◌}
+use Rattle.vortex_prelude.specs.Chain.{◌>>=◌}
 use Rattle.vortex_wire.specs.Varint.{varint_at, varint}
 
 -- what a field holds: a varint, eight bytes, a length and so many bytes, or four bytes
@@ -22,13 +25,14 @@ pub record Field : Type 0 where
   pub number : ℕ
   pub content : Content
 
--- a field without where its bytes lie in memory
+-- what a field holds, without where its bytes lie in memory
 abbrev pub content_of : WireValue → Content
 content_of (wire.Varint n) = Varint n
 content_of (wire.Eight n) = Eight n
 content_of (wire.Bytes bytes) = Bytes bytes.now
 content_of (wire.Four n) = Four n
 
+-- a field of a message as it was read, without where its bytes lie in memory
 abbrev pub field_of : WireField → Field
 field_of f = record { number = f.number; content = content_of f.value }
 
@@ -36,8 +40,8 @@ field_of f = record { number = f.number; content = content_of f.value }
 unfoldable pub bytes_at : ℕ → List ℕ → Option (List ℕ × List ℕ)
 bytes_at n bytes = if nat_lt (length bytes) n then None else Some (take n bytes, drop n bytes)
 
--- The content of a wire type, and the bytes after it. Wire types 3 and 4, the ends of a group, and all
--- others stand for no content.
+-- The content of a wire type, and the bytes after it. Wire types 3 and 4, the ends of a group, and
+-- all others stand for no content.
 unfoldable pub content_at : ℕ → List ℕ → Option (Content × List ℕ)
 content_at zero bytes = do
   number ← varint_at bytes
@@ -58,7 +62,7 @@ content_at wire_type bytes = None
 abbrev pub field_number : ℕ → Option ℕ
 field_number n = if (n == 0) || nat_le (2 ^ 29) n then None else Some n
 
--- The field at the front, and the bytes after it.
+-- The field with which the bytes begin, and the bytes after it.
 unfoldable pub field_at : List ℕ → Option (Field × List ℕ)
 field_at bytes = do
   key ← varint_at bytes
@@ -84,7 +88,7 @@ abbrev pub next_of : List ℕ → Option (Result Field WireError)
 next_of [] = None
 next_of (b ∷ bytes) = Some (ok_or (option_map (λ f. f.0) (field_at (b ∷ bytes))) Malformed)
 
--- and the bytes that are then left: none after a fault
+-- the bytes that are left once a field was given: none after a fault
 abbrev pub left_of : List ℕ → List ℕ
 left_of bytes = unwrap_or (option_map (λ f. f.1) (field_at bytes)) []
 
@@ -95,7 +99,8 @@ seen (Some (Ok f)) = Some (Ok (field_of f))
 seen (Some (Err e)) = Some (Err e)
 
 -- what was read, and then these fields
-abbrev pub then_fields : Option (Result WireField WireError) → Option (List Field) → Option (List Field)
+abbrev pub then_fields : Option (Result WireField WireError) → Option (List Field)
+    → Option (List Field)
 then_fields None fields = Some []
 then_fields (Some (Ok f)) fields = option_map (λ others. field_of f ∷ others) fields
 then_fields (Some (Err e)) fields = None

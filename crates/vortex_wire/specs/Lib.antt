@@ -1,5 +1,4 @@
-pub mod Chain
-pub mod Error
+pub mod ErrorNumber
 pub mod Varint
 pub mod Field
 pub mod Message

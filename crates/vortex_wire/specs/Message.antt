@@ -1,10 +1,14 @@
--- The fields of a message by number. Fields of other numbers are skipped.
-use Rattle.std.specs.Prelude.{ℕ, ◌%◌, ◌^◌, ◌==◌, List, [], ◌∷◌, Option, Some, None, Bool, true, false, option_map, unwrap_or, if◌then◌else◌, nat_le, ◌&&◌, filter, Result, Ok, Err}
+-- The fields of a message by number: `singular_varint`, `singular_u32`, `only_field`.
+-- Fields of other numbers are skipped.
+use Rattle.std.specs.Prelude.{ℕ, ◌%◌, ◌^◌, ◌==◌, List, [], ◌∷◌, Option, Some, None, Bool, true}
+use Rattle.std.specs.Prelude.{false, option_map, unwrap_or, if◌then◌else◌, nat_le, ◌&&◌, filter}
+use Rattle.std.specs.Prelude.{Result, Ok, Err}
 use Rattle.std.specs.Option.{option_or}
 use Rattle.vortex_wire.specs.declared.error.WireError.{WireError}
 use Rattle.vortex_wire.specs.declared.field.WireField.{WireField}
-use Rattle.vortex_wire.specs.Chain.{◌>>=◌}
-use Rattle.vortex_wire.specs.Field.{Content, Varint, Eight, Bytes, Four, Field, field_of, fields_of, varint_field}
+use Rattle.vortex_prelude.specs.Chain.{◌>>=◌}
+use Rattle.vortex_wire.specs.Field.{Content, Varint, Eight, Bytes, Four, Field, field_of, fields_of}
+use Rattle.vortex_wire.specs.Field.{varint_field}
 
 -- the number of a varint
 abbrev pub varint_in : Content → Option ℕ
@@ -13,16 +17,17 @@ varint_in (Eight n) = None
 varint_in (Bytes bytes) = None
 varint_in (Four n) = None
 
--- The varint of a singular field, if it is there: of several the last counts. Nothing is found where a
--- field of this number holds no varint.
+-- The varint of a singular field, if it is there: of several the last counts. Nothing is found
+-- where a field of this number holds no varint.
 unfoldable pub last_varint : ℕ → List Field → Option (Option ℕ)
 last_varint number [] = Some None
 last_varint number (f ∷ fields) =
     if f.number == number
-    then (varint_in f.content >>= λ n. last_varint number fields >>= λ later. Some (option_or later (Some n)))
+    then (varint_in f.content >>= λ n.
+    last_varint number fields >>= λ later. Some (option_or later (Some n)))
     else last_varint number fields
 
--- the same of the bytes of a message
+-- the varint of a singular field of the bytes of a message
 unfoldable pub singular_varint : ℕ → List ℕ → Option (Option ℕ)
 singular_varint number bytes = fields_of bytes >>= last_varint number
 
@@ -36,7 +41,8 @@ singular_u32 number bytes = do
 abbrev pub truth : ℕ → Bool
 truth n = if n == 0 then false else true
 
-unfoldable pub optional_bool : ℕ → List ℕ → Option (Option Bool)
+-- the truth value of a singular field, if it is there
+abbrev pub optional_bool : ℕ → List ℕ → Option (Option Bool)
 optional_bool number bytes = do
   found ← singular_varint number bytes
   Some (option_map truth found)
@@ -53,6 +59,7 @@ optional_field number (Some false) = varint_field number 0
 
 -- ---- members of a oneof, and singular messages
 
+-- whether the number of a field is from `first` to `last`
 abbrev pub is_member : ℕ → ℕ → Field → Bool
 is_member first last f = nat_le first f.number && nat_le f.number last
 
@@ -62,7 +69,8 @@ lone [] = Some None
 lone (f ∷ []) = Some (Some f)
 lone (f ∷ g ∷ fields) = None
 
--- The field with a number from `first` to `last`, if it is there. Nothing is found where there are two.
+-- The field with a number from `first` to `last`, if it is there. Nothing is found where there are
+-- two.
 unfoldable pub only_field : ℕ → ℕ → List ℕ → Option (Option Field)
 only_field first last bytes = do
   fields ← fields_of bytes

@@ -12,17 +12,17 @@ pub enum WireError {
     /// The bytes stand for nothing.
     #[error("malformed message")]
     Malformed,
-    /// Memory ran out.
+    /// Lack of memory.
     #[error("out of memory")]
     OutOfMemory,
 }
 
 impl WireError {
-    ghost use Rattle.vortex_wire.specs.Error.{number_of};
+    ghost use Rattle.vortex_wire.specs.ErrorNumber.{error_number};
 
     /// The number of the error, which stays the same in later versions.
     pub fn number(&self) -> u8
-        ensures { result ≡ number_of self.now }
+        ensures { result ≡ error_number self.now }
     {
         match self {
             WireError::Malformed => 1,

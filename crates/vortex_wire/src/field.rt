@@ -1,8 +1,11 @@
 //! The fields of a message.
 
-ghost use Rattle.std.specs.Prelude.{◌≡◌, ◌<◌, ◌^◌, ◌++◌, ◌↔◌, ℕ, List, [], length, take, Some, IfSome, IsNone, OnOk, OnErr, OnSome, IsOkUnless, option_map, is_ok, if◌then◌else◌};
-ghost use Rattle.vortex_wire.specs.Varint.{varint};
-ghost use Rattle.vortex_wire.specs.Field.{content_of, field_of, bytes_at, content_at, field_at, fields_of, next_of, left_of, seen, then_fields, bytes_field, Bytes};
+ghost use Rattle.std.specs.Prelude.{◌≡◌, ◌<◌, ◌^◌, ◌++◌, ◌↔◌, ℕ, List, [], length, take, Some};
+ghost use Rattle.std.specs.Prelude.{IfSome, IsNone, OnOk, OnErr, OnSome, IsOkUnless, option_map};
+ghost use Rattle.std.specs.Prelude.{is_ok, if◌then◌else◌};
+ghost use Rattle.vortex_wire.specs.Field.{content_of, field_of, bytes_at, content_at, field_at};
+ghost use Rattle.vortex_wire.specs.Field.{fields_of, next_of, left_of, seen, then_fields};
+ghost use Rattle.vortex_wire.specs.Field.{bytes_field, Bytes};
 
 use crate::error::WireError;
 use crate::varint::{put_varint, varint_at};
@@ -57,7 +60,7 @@ impl<'a> Fields<'a> {
 
     /// The next field.
     pub fn next_field(&mut self) -> Option<Result<WireField<'a>, WireError>>
-        // It gives the field that stands next, or Malformed where bytes are left and none does.
+        // The field that stands next, or Malformed where bytes are left and none stands.
         ensures given { seen result ≡ next_of self.old }
         ensures left { self.new ≡ left_of self.old }
 

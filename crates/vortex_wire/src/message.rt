@@ -1,9 +1,11 @@
 //! The singular fields of a message.
 
-ghost use Rattle.std.specs.Prelude.{◌≡◌, ◌<◌, ◌^◌, ◌++◌, ℕ, List, length, take, Some, OnOk, OnErr, IsOkUnless, is_ok, if◌then◌else◌};
+ghost use Rattle.std.specs.Prelude.{◌≡◌, ◌<◌, ◌^◌, ◌++◌, ℕ, List, length, take, Some, OnOk, OnErr};
+ghost use Rattle.std.specs.Prelude.{IsOkUnless, is_ok, if◌then◌else◌};
 ghost use Rattle.std.specs.Option.{ok_or};
 ghost use Rattle.vortex_wire.specs.Field.{Varint, field_at, varint_field};
-ghost use Rattle.vortex_wire.specs.Message.{singular_varint, singular_u32, only_field, found, singular_field};
+ghost use Rattle.vortex_wire.specs.Message.{singular_varint, singular_u32, only_field, found};
+ghost use Rattle.vortex_wire.specs.Message.{singular_field};
 
 use crate::error::WireError;
 use crate::field::{Fields, WireField, WireValue};
@@ -31,7 +33,7 @@ pub fn singular_varint(b: &[u8], number: u32) -> Result<Option<u64>, WireError>
     Ok(last)
 }
 
-/// The low 32 bits of it, 0 where the field is missing.
+/// The low 32 bits of the last varint of this number, 0 where the field is missing.
 #[tactic(auto, unfolding(crate::specs::Message::singular_u32))]
 pub fn singular_u32(b: &[u8], number: u32) -> Result<u32, WireError>
     ensures { result ≡ ok_or (singular_u32 number b.now) WireError.Malformed }
@@ -40,8 +42,8 @@ pub fn singular_u32(b: &[u8], number: u32) -> Result<u32, WireError>
     Ok((found % (1 << 32)) as u32)
 }
 
-/// The only field with a number from `first` to `last`, as a member of a oneof or a singular message.
-/// Two of them are refused.
+/// The only field with a number from `first` to `last`, as a member of a oneof or a singular
+/// message. Two of them are refused.
 pub fn only_field(b: &[u8], first: u32, last: u32) -> Result<Option<WireField<'_>>, WireError>
     ensures { found result ≡ ok_or (only_field first last b.now) WireError.Malformed }
 {

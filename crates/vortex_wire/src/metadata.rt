@@ -2,10 +2,15 @@
 
 ghost use Rattle.std.specs.Prelude.{◌≡◌, Some, IfOk, IsOkUnless};
 ghost use Rattle.std.specs.Option.{ok_or};
-ghost use Rattle.vortex_wire.specs.Metadata.{dict_metadata_of, dict_metadata_bytes, decimal_metadata_of, decimal_metadata_bytes, list_metadata_of, list_metadata_bytes};
+ghost use Rattle.vortex_wire.specs.Metadata.{dict_metadata_of, dict_metadata_bytes};
+ghost use Rattle.vortex_wire.specs.Metadata.{decimal_metadata_of, decimal_metadata_bytes};
+ghost use Rattle.vortex_wire.specs.Metadata.{list_metadata_of, list_metadata_bytes};
 
 use crate::error::WireError;
 use crate::message::{put_singular, put_varint_field, singular_u32, singular_varint};
+use crate::schema::{
+    DECIMAL_VALUE_TYPE, DICT_CODES_PTYPE, DICT_IS_NULLABLE_CODES, DICT_VALUES_LEN, LIST_ELEMENTS,
+};
 use std::alloc::Global;
 
 /// How a dictionary is stored.
@@ -21,13 +26,13 @@ pub struct DictMetadata {
 
 impl DictMetadata {
     /// The record of these bytes.
-    #[tactic(auto, unfolding(crate::specs::Metadata::dict_metadata_of, crate::specs::Message::optional_bool))]
+    #[tactic(auto, unfolding(crate::specs::Metadata::dict_metadata_of))]
     pub fn read(b: &[u8]) -> Result<DictMetadata, WireError>
         ensures { result ≡ ok_or (dict_metadata_of b.now) WireError.Malformed }
     {
-        let values_len = singular_u32(b, 1)?;
-        let codes_ptype = singular_u32(b, 2)?;
-        let found = singular_varint(b, 3)?;
+        let values_len = singular_u32(b, DICT_VALUES_LEN)?;
+        let codes_ptype = singular_u32(b, DICT_CODES_PTYPE)?;
+        let found = singular_varint(b, DICT_IS_NULLABLE_CODES)?;
         let is_nullable_codes = found.map(|n| n != 0);
         Ok(DictMetadata {
             values_len,
@@ -37,7 +42,7 @@ impl DictMetadata {
     }
 
     /// The bytes of the record.
-    #[tactic(auto, using(crate::proofs::Records::dict_again), unfolding(crate::specs::Metadata::dict_metadata_bytes))]
+    #[tactic(auto, using(crate::proofs::Records::dict_again))]
     pub fn write(&self, alloc: Global) -> Result<Vec<u8>, WireError>
         ensures written { IfOk result (λ v. v.items ≡ dict_metadata_bytes self.now) }
         ensures memory { IsOkUnless result WireError.OutOfMemory }
@@ -49,10 +54,10 @@ impl DictMetadata {
             is_nullable_codes,
         } = *self;
         let mut out = Vec::new(alloc);
-        put_singular(&mut out, 1, values_len)?;
-        put_singular(&mut out, 2, codes_ptype)?;
+        put_singular(&mut out, DICT_VALUES_LEN, values_len)?;
+        put_singular(&mut out, DICT_CODES_PTYPE, codes_ptype)?;
         if let Some(is_nullable) = is_nullable_codes {
-            put_varint_field(&mut out, 3, u64::from(is_nullable))?;
+            put_varint_field(&mut out, DICT_IS_NULLABLE_CODES, u64::from(is_nullable))?;
         }
         Ok(out)
     }
@@ -71,19 +76,19 @@ impl DecimalMetadata {
     pub fn read(b: &[u8]) -> Result<DecimalMetadata, WireError>
         ensures { result ≡ ok_or (decimal_metadata_of b.now) WireError.Malformed }
     {
-        let value_type = singular_u32(b, 1)?;
+        let value_type = singular_u32(b, DECIMAL_VALUE_TYPE)?;
         Ok(DecimalMetadata { value_type })
     }
 
     /// The bytes of the record.
-    #[tactic(auto, using(crate::proofs::Records::decimal_again), unfolding(crate::specs::Metadata::decimal_metadata_bytes))]
+    #[tactic(auto, using(crate::proofs::Records::decimal_again))]
     pub fn write(&self, alloc: Global) -> Result<Vec<u8>, WireError>
         ensures written { IfOk result (λ v. v.items ≡ decimal_metadata_bytes self.now) }
         ensures memory { IsOkUnless result WireError.OutOfMemory }
         ensures again { decimal_metadata_of (decimal_metadata_bytes self.now) ≡ Some self.now }
     {
         let mut out = Vec::new(alloc);
-        put_singular(&mut out, 1, self.value_type)?;
+        put_singular(&mut out, DECIMAL_VALUE_TYPE, self.value_type)?;
         Ok(out)
     }
 }
@@ -101,19 +106,19 @@ impl ListMetadata {
     pub fn read(b: &[u8]) -> Result<ListMetadata, WireError>
         ensures { result ≡ ok_or (list_metadata_of b.now) WireError.Malformed }
     {
-        let elements = singular_u32(b, 1)?;
+        let elements = singular_u32(b, LIST_ELEMENTS)?;
         Ok(ListMetadata { elements })
     }
 
     /// The bytes of the record.
-    #[tactic(auto, using(crate::proofs::Records::list_again), unfolding(crate::specs::Metadata::list_metadata_bytes))]
+    #[tactic(auto, using(crate::proofs::Records::list_again))]
     pub fn write(&self, alloc: Global) -> Result<Vec<u8>, WireError>
         ensures written { IfOk result (λ v. v.items ≡ list_metadata_bytes self.now) }
         ensures memory { IsOkUnless result WireError.OutOfMemory }
         ensures again { list_metadata_of (list_metadata_bytes self.now) ≡ Some self.now }
     {
         let mut out = Vec::new(alloc);
-        put_singular(&mut out, 1, self.elements)?;
+        put_singular(&mut out, LIST_ELEMENTS, self.elements)?;
         Ok(out)
     }
 }

@@ -1,6 +1,7 @@
 //! Numbers as groups of seven bits.
 
-ghost use Rattle.std.specs.Prelude.{◌≡◌, ◌<◌, ◌≤◌, ◌+◌, ◌++◌, List, ℕ, length, option_map, is_ok, if◌then◌else◌, IsOkUnless, All};
+ghost use Rattle.std.specs.Prelude.{◌≡◌, ◌<◌, ◌≤◌, ◌+◌, ◌++◌, List, ℕ, length, option_map, is_ok};
+ghost use Rattle.std.specs.Prelude.{if◌then◌else◌, IsOkUnless, All};
 ghost use Rattle.vortex_wire.specs.Varint.{varint_at, varint};
 
 use crate::error::WireError;
@@ -8,7 +9,7 @@ use crate::error::WireError;
 /// How many bytes the longest varint has.
 const MAX_LEN: usize = 10;
 
-/// The varint at the front, and the bytes after it.
+/// The varint with which the bytes begin, and the bytes after it.
 pub(crate) fn varint_at(bytes: &[u8]) -> Option<(u64, &[u8])>
     ensures { option_map (λ x. (x.0, x.1.now)) result ≡ varint_at bytes.now }
 {
@@ -31,12 +32,14 @@ pub(crate) fn varint_at(bytes: &[u8]) -> Option<(u64, &[u8])>
 
 /// Appends the shortest varint of `v`.
 pub fn put_varint(out: &mut Vec<u8>, v: u64) -> Result<(), WireError>
-    ensures appended { out.new.items ≡ (if is_ok result then out.old.items ++ varint v else out.old.items) }
+    ensures appended { out.new.items
+        ≡ (if is_ok result then out.old.items ++ varint v else out.old.items) }
     ensures memory { IsOkUnless result WireError.OutOfMemory }
 
-    // It is read again, whatever follows it, and nothing shorter is read as this number.
+    // The varint is read again, whatever follows, and nothing shorter is read as this number.
     ensures again { (rest : List ℕ) → varint_at (varint v ++ rest) ≡ Some (v, rest) }
-    ensures shortest { (bytes rest : List ℕ) → All (λ b. b < 256) bytes → varint_at bytes ≡ Some (v, rest)
+    ensures shortest { (bytes rest : List ℕ) → All (λ b. b < 256) bytes
+        → varint_at bytes ≡ Some (v, rest)
         → length (varint v) + length rest ≤ length bytes }
 {
     let mut buffer = [0u8; MAX_LEN];

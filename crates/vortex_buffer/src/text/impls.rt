@@ -31,7 +31,8 @@ impl Eq for BufferString {
 impl PartialOrd for BufferString {
     ghost partial_cmp = { as_partial_cmp (on (λ b. b.bytes) (slice_cmp nat_cmp)) };
 
-    ghost laws = { partial_order_from_own_ties (Prim.search (comparing, rules)) (Prim.search (comparing, rules)) };
+    ghost laws = { partial_order_from_own_ties
+        (Prim.search (comparing, rules)) (Prim.search (comparing, rules)) };
 
     fn partial_cmp(&self, other: &BufferString) -> Option<Ordering> {
         Some(self.cmp(other))

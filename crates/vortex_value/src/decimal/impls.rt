@@ -6,8 +6,10 @@ ghost use Rattle.std.specs.Cmp.Rules.{comparing, hashing};
 ghost use Rattle.std.specs.Hash as fed;
 ghost use Rattle.std.proofs.Common.{rules};
 ghost use Rattle.vortex_number.specs.Format.{bytes_of};
-ghost use Rattle.vortex_value.specs.DecimalValue.{width_of, decimal_number, decimal_format, decimal_text};
-ghost use Rattle.vortex_value.specs.declared.decimal.DecimalValue.TheVariants.{I8, I16, I32, I64, I128};
+ghost use Rattle.vortex_value.specs.DecimalValue.{width_of, decimal_number, decimal_format};
+ghost use Rattle.vortex_value.specs.DecimalValue.{decimal_text};
+ghost use Rattle.vortex_value.specs.declared.decimal.DecimalValue.TheVariants.{I8, I16, I32, I64};
+ghost use Rattle.vortex_value.specs.declared.decimal.DecimalValue.TheVariants.{I128};
 
 use super::DecimalValue;
 use crate::{ToBytes, ValueError};
@@ -32,7 +34,8 @@ impl Eq for DecimalValue {
 impl PartialOrd for DecimalValue {
     ghost partial_cmp = { as_partial_cmp (on decimal_number int_cmp) };
 
-    ghost laws = { partial_order_from_own_ties (Prim.search (comparing, rules)) (Prim.search (comparing, rules)) };
+    ghost laws = { partial_order_from_own_ties
+        (Prim.search (comparing, rules)) (Prim.search (comparing, rules)) };
 
     fn partial_cmp(&self, other: &DecimalValue) -> Option<Ordering> {
         Some(self.cmp(other))

@@ -8,7 +8,8 @@ ghost use Rattle.std.proofs.Common.{rules};
 ghost use Rattle.vortex_number.specs.Format.{bytes_of};
 ghost use Rattle.vortex_number.specs.PType.{format_of};
 ghost use Rattle.vortex_value.specs.PValue.{kind_of, number_of, pvalue_text};
-ghost use Rattle.vortex_value.specs.declared.pvalue.PValue.TheVariants.{U8, U16, U32, U64, I8, I16, I32, I64};
+ghost use Rattle.vortex_value.specs.declared.pvalue.PValue.TheVariants.{U8, U16, U32, U64, I8, I16};
+ghost use Rattle.vortex_value.specs.declared.pvalue.PValue.TheVariants.{I32, I64};
 
 use super::PValue;
 use crate::{ToBytes, ValueError};
@@ -33,7 +34,8 @@ impl Eq for PValue {
 impl PartialOrd for PValue {
     ghost partial_cmp = { as_partial_cmp (on number_of int_cmp) };
 
-    ghost laws = { partial_order_from_own_ties (Prim.search (comparing, rules)) (Prim.search (comparing, rules)) };
+    ghost laws = { partial_order_from_own_ties
+        (Prim.search (comparing, rules)) (Prim.search (comparing, rules)) };
 
     fn partial_cmp(&self, other: &PValue) -> Option<Ordering> {
         Some(self.cmp(other))

@@ -1,5 +1,5 @@
 use Rattle.std.proofs.Common.{refl}
-use Rattle.vortex_flat.specs.Shape.{shape_of}
+use Rattle.vortex_flat.specs.inner.Shape.{shape_of}
 use Rattle.vortex_flat.proofs.TableLemmas.{table_here, table_unfit}
 use Rattle.vortex_flat.proofs.shape.shape_at.Goals as goal
 

@@ -1,7 +1,7 @@
 use Rattle.std.proofs.Common.{◌≡◌, ◌++◌, drop}
 use Rattle.vortex_flat.specs.Layout.{entries}
 use Rattle.vortex_flat.specs.Item.{slots_from}
-use Rattle.vortex_flat.specs.SlotBytes.{HaveRoom, places_of}
+use Rattle.vortex_flat.specs.inner.SlotBytes.{HaveRoom, places_of}
 use Rattle.vortex_flat.proofs.slots.put_entries.Given as goal
 
 abbrev pub invariant-loop-slot : goal.invariant-loop-slot

@@ -1,7 +1,7 @@
 use Rattle.std.proofs.Common.{◌≡◌, ◌+◌, ◌++◌, ℕ, ap, ◌∙◌, arith}
 use Rattle.vortex_flat.specs.Layout.{round_up, fours_of}
 use Rattle.vortex_flat.specs.Item.{slots_from}
-use Rattle.vortex_flat.specs.SlotBytes.{places_of}
+use Rattle.vortex_flat.specs.inner.SlotBytes.{places_of}
 use Rattle.vortex_flat.proofs.PutLemmas.{inline_laid, vtable_small, behind_is}
 use Rattle.vortex_flat.proofs.slots.put_inline.Goals as goal
 

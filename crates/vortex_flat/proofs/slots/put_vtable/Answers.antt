@@ -1,5 +1,5 @@
 use Rattle.std.proofs.Common.{length, refl, arith}
-use Rattle.vortex_flat.specs.SlotBytes.{places_of}
+use Rattle.vortex_flat.specs.inner.SlotBytes.{places_of}
 use Rattle.vortex_flat.proofs.PutLemmas.{vtable_laid, vtable_small}
 use Rattle.vortex_flat.proofs.slots.put_vtable.Goals as goal
 

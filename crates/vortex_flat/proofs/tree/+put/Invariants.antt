@@ -1,5 +1,5 @@
 use Rattle.std.proofs.Common.{drop}
-use Rattle.vortex_flat.specs.TreeCode.{tree_weight, slots_weight, trees_weight}
+use Rattle.vortex_flat.specs.inner.TreeCode.{tree_weight, slots_weight, trees_weight}
 use Rattle.vortex_flat.specs.Item.{slots_from, tree_of, trees_from}
 use Rattle.vortex_flat.proofs.HangingLemmas.{slot_weight, TargetsLeft, TreesHang}
 use Rattle.vortex_flat.proofs.tree.+put.Given as goal

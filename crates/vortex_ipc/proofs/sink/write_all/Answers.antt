@@ -7,5 +7,5 @@ loop-rest-preserved g c =
     let written = g.K.Sink.written in
     record {
       parts = rw c.split_at.ensures.back (written_more (written c.args.sink.now) (written c.loop-rest.sink) (written c.write.new.self) c.args.bytes.now c.loop-rest.rest.now c.in-Ok.count c.loop-rest.invariant.parts c.in-Ok.ensures.bytes);
-      later = c.in-Ok.ensures.no_fault ∙ c.loop-rest.invariant.later;
+      counted = c.in-Ok.ensures.no_fault ∙ c.loop-rest.invariant.counted;
     }

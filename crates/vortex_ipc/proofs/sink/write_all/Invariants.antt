@@ -8,7 +8,7 @@ invariant-loop-rest g l =
     let sink = g.K.Sink in
     record {
       parts : (done : List ℕ) × (l.bytes ≡ done ++ l.rest) × Appends (sink.written l.initial.sink) (sink.written l.sink) done;
-      later : sink.faults l.sink ≡ sink.faults l.initial.sink;
+      counted : sink.counts l.sink ≡ sink.counts l.initial.sink;
     }
 
 abbrev pub decreases-loop-rest : goal.decreases-loop-rest

@@ -1,5 +1,5 @@
 use Rattle.std.proofs.Common.{◌≡◌, ◌≤◌, length, take, filter}
-use Rattle.vortex_select.specs.Layout.{keeps}
+use Rattle.vortex_select.specs.inner.KeptRows.{keeps}
 use Rattle.vortex_select.proofs.rows.keep.Given as goal
 
 -- the front of the block is what is kept so far

@@ -1,6 +1,6 @@
 use Rattle.std.proofs.Common.{◌≡◌, ◌++◌, length, filter}
 use Rattle.std.specs.List.{flat_map}
-use Rattle.vortex_select.specs.Layout.{keeps}
+use Rattle.vortex_select.specs.inner.KeptRows.{keeps}
 use Rattle.vortex_select.proofs.rows.push_kept.Given as goal
 
 -- what was appended, and what is kept of the rest, are what is kept of all

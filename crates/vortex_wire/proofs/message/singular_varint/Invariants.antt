@@ -1,5 +1,5 @@
 use Rattle.std.proofs.Common.{◌≡◌, length}
-use Rattle.vortex_wire.specs.Chain.{◌>>=◌}
+use Rattle.vortex_prelude.specs.Chain.{◌>>=◌}
 use Rattle.vortex_wire.specs.Field.{fields_of}
 use Rattle.vortex_wire.specs.Message.{last_varint, singular_varint}
 use Rattle.vortex_wire.proofs.Singular.{since}

@@ -1,7 +1,7 @@
 use Rattle.std.proofs.Common.{List, true, refl, subst, arith}
 use Rattle.vortex_flat.specs.declared.item.Item.{Item}
 use Rattle.vortex_flat.specs.Item.{trees_from}
-use Rattle.vortex_flat.specs.Extent.{MeasuresTrees}
+use Rattle.vortex_flat.specs.inner.Extent.{MeasuresTrees}
 use Rattle.vortex_flat.proofs.ItemLemmas.{items_measured}
 use Rattle.vortex_flat.proofs.item.Items.new.Goals as goal
 

@@ -1,4 +1,4 @@
-use Rattle.vortex_flat.specs.Shape.{shape_of}
+use Rattle.vortex_flat.specs.inner.Shape.{shape_of}
 use Rattle.vortex_flat.proofs.TableLemmas.{at_own_place}
 use Rattle.vortex_flat.proofs.table.Table.at.Goals as goal
 

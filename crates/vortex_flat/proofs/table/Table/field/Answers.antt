@@ -1,6 +1,6 @@
 use Rattle.std.proofs.Common.{◌≡◌, ℕ, ◌+◌, ◌*◌, Some, None, refl, ap, ◌∙◌, arith, inl, inr}
 use Rattle.vortex_flat.specs.Numbers.{number}
-use Rattle.vortex_flat.specs.Shape.{shape_of}
+use Rattle.vortex_flat.specs.inner.Shape.{shape_of}
 use Rattle.vortex_flat.proofs.NumbersLemmas.{passes_on}
 use Rattle.vortex_flat.proofs.TableLemmas.{field_no_entry, field_zero, field_off, field_here}
 use Rattle.vortex_flat.proofs.table.Table.field.Goals as goal

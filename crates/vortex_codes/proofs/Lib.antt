@@ -1,0 +1,5 @@
+pub mod KeyLemmas
+pub mod OrderLemmas
+pub mod PlaceLemmas
+pub mod SlotLemmas
+pub mod TableLemmas

@@ -1,0 +1,59 @@
+//! The answer to a question.
+
+use crate::types::{same_answer, type_answer};
+use std::alloc::{AllocError, Global};
+use vortex_buffer::BufferError;
+use vortex_dtype::DTypeError;
+
+/// Why a question has no answer, or a name alone.
+pub(crate) enum Refusal {
+    /// The line is no question.
+    Unknown,
+    /// A call on types refused.
+    Type(DTypeError),
+    /// Lack of memory.
+    OutOfMemory,
+}
+
+impl From<DTypeError> for Refusal {
+    fn from(error: DTypeError) -> Refusal {
+        match error {
+            DTypeError::OutOfMemory => Refusal::OutOfMemory,
+            _ => Refusal::Type(error),
+        }
+    }
+}
+
+impl From<BufferError> for Refusal {
+    fn from(error: BufferError) -> Refusal {
+        match error {
+            BufferError::NotUtf8 => Refusal::Unknown,
+            BufferError::OutOfMemory => Refusal::OutOfMemory,
+        }
+    }
+}
+
+impl From<AllocError> for Refusal {
+    fn from(_error: AllocError) -> Refusal {
+        Refusal::OutOfMemory
+    }
+}
+
+/// The answer to a line. There is none where memory runs out.
+pub(crate) fn answer(alloc: Global, line: &str) -> Result<String, AllocError> {
+    match asked(alloc, line) {
+        Ok(text) => Ok(text),
+        Err(Refusal::Unknown) => String::from_str(alloc, "Unknown"),
+        Err(Refusal::Type(error)) => format!(in alloc; "{error:?}"),
+        Err(Refusal::OutOfMemory) => Err(AllocError),
+    }
+}
+
+fn asked(alloc: Global, line: &str) -> Result<String, Refusal> {
+    let mut words = line.split(' ');
+    match (words.next(), words.next(), words.next(), words.next()) {
+        (Some("type"), Some(place), Some(bytes), None) => type_answer(alloc, place, bytes),
+        (Some("same"), Some(one), Some(other), None) => same_answer(alloc, one, other),
+        _ => Err(Refusal::Unknown),
+    }
+}

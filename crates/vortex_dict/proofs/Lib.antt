@@ -1,0 +1,6 @@
+pub mod BytesLemmas
+pub mod EncodingLemmas
+pub mod LawLemmas
+pub mod NumberLemmas
+pub mod SliceLemmas
+pub mod ValueLemmas

@@ -1,0 +1,96 @@
+-- Values and their places, with one value more.
+use Rattle.std.proofs.Common.{◌≡◌, ℕ, ◌+◌, ◌^◌, ◌<◌, inl, inr, Bool, true, false, true≢false, not, ◌||◌, nat_le, ◌*◌, map, pos, ℤ, IsTrue, cond, Option, Some, None, List, [], ◌∷◌, ◌++◌, length, take, get_or, refl, ap, sym, subst, ◌∙◌, arith, mul-suc}
+use Rattle.std.specs.Bool.{Decides}
+use Rattle.std.specs.Option.{option_eq}
+use Rattle.std.proofs.lemmas.Bool.{cases_lt}
+use Rattle.std.proofs.lemmas.List.{length-map, length-append, length-take-le, get_or_append_left, get_or-take, take_more}
+use Rattle.std.proofs.lemmas.Option.{slice_get-get_or}
+use Rattle.std.proofs.Math.Seq.{get_or-append_seam}
+use Rattle.std.specs.declared.cmp.Ordering.{Ordering}
+use Rattle.std.specs.HashMap.{HashMap}
+use Rattle.std.specs.BTreeMap.{BTreeMap, get}
+use Rattle.vortex_codes.specs.Places.{place_of}
+use Rattle.vortex_codes.proofs.PlaceLemmas.{place_of-push, unplaced_in, none_in}
+use Rattle.std.specs.List.{sum_by}
+use Rattle.std.proofs.lemmas.List.Sums.{sum_by-cons}
+use Rattle.vortex_number.specs.Format.{Format, fits}
+use Rattle.vortex_terms.specs.Row.{Row}
+use Rattle.vortex_dict.specs.declared.constraints.DictConstraints.{DictConstraints}
+use Rattle.vortex_dict.specs.KeyRows.{number_or_null}
+use Rattle.vortex_dict.specs.Limits.{most_values, numbers_over}
+use Rattle.vortex_dict.specs.Numbers.{place_found, HasPlaces}
+use Rattle.vortex_dict.proofs.ValueLemmas.{option_eq-Decides}
+
+abbrev Apart : {T : Type 0} → List (Option T) → Type 0
+Apart values = (c d : ℕ) → c < length values → d < length values → get_or values c None ≡ get_or values d None → c ≡ d
+
+module _ {T : Type 0} (eq : T → T → Bool) (law : (x y : T) → Decides (eq x y) (x ≡ y)) where
+  abbrev same : Option T → Option T → Bool
+  same = option_eq eq
+
+  pub apart_more : (values : List (Option T)) (v : Option T) → Apart values → place_of same v values ≡ None → Apart (values ++ v ∷ [])
+  apart_more values v a none c d l u e =
+      let long = length-append values (v ∷ []) in
+      let before = λ (i : ℕ) (h : i < length values). get_or_append_left values (v ∷ []) None i h in
+      let at_end = get_or-append_seam values v [] None in
+      let gone = none_in same (option_eq-Decides eq law) values None v none in
+      elim (cases_lt c (length values)) [
+        | inl h ↦ elim (cases_lt d (length values)) [ inl k ↦ a c d h k (sym (before c h) ∙ e ∙ before d k) | inr k ↦ absurd (let i : d ≡ length values = omega (arith, long) in gone c h (sym (before c h) ∙ e ∙ ap (λ n. get_or (values ++ v ∷ []) n None) i ∙ at_end)) ]
+        | inr h ↦ elim (cases_lt d (length values)) [ inl k ↦ absurd (let i : c ≡ length values = omega (arith, long) in gone d k (sym (before d k) ∙ sym e ∙ ap (λ n. get_or (values ++ v ∷ []) n None) i ∙ at_end)) | inr k ↦ omega (arith, long) ]
+      ]
+
+  module _ {S : Type 0} (cmp : T → T → Ordering) (width : ℕ) (values values' : List (Option T)) (codes codes' : HashMap T ℕ S) (ordered ordered' : Option (BTreeMap T ℕ)) (null null' : Option ℕ) where
+    pub places_more : (v : Option T) (place : ℕ) → HasPlaces eq cmp width values codes ordered null → place_of same v values ≡ None → values' ≡ values ++ v ∷ [] → place ≡ length values → place + 1 < 2 ^ 32 → width * (place + 1) < 2 ^ 32
+        → ((q : Option T) → place_found eq cmp codes' ordered' null' q ≡ cond (same v q) (Some place) (place_found eq cmp codes ordered null q)) → HasPlaces eq cmp width values' codes' ordered' null'
+    places_more v place h none e p f w i = rw e (record {
+      found = λ q. i q ∙ ap (cond (same v q) (Some place)) (h.found q) ∙ ap (λ n. cond (same v q) (Some n) (place_of same q values)) p ∙ sym (place_of-push same (option_eq-Decides eq law) values v q none);
+      apart = apart_more values v h.apart none;
+      few = omega (arith, length-append values (v ∷ []), p, f);
+      small = (let count : place + 1 ≡ length (values ++ v ∷ []) = omega (arith, length-append values (v ∷ []), p) in subst (λ n. width * n < 2 ^ 32) count w);
+    })
+
+    pub places_stay : HasPlaces eq cmp width values codes ordered null → values' ≡ values → ((q : Option T) → place_found eq cmp codes' ordered' null' q ≡ place_found eq cmp codes ordered null q) → HasPlaces eq cmp width values' codes' ordered' null'
+    places_stay h e i = rw e (record { found = λ q. i q ∙ h.found q; apart = h.apart; few = h.few; small = h.small })
+
+    -- values found by their order from here on
+    pub places_ordered : (m : BTreeMap T ℕ) → HasPlaces eq cmp width values codes ordered null → ((q : T) → get cmp m q ≡ place_of same (Some q) values) → HasPlaces eq cmp width values codes (Some m) null
+    places_ordered m h i = record {
+      found = λ q. by q;
+      apart = h.apart;
+      few = h.few;
+      small = h.small;
+    }
+      where
+        by : (q : Option T) → place_found eq cmp codes (Some m) null q ≡ place_of same q values
+        by None = h.found None
+        by (Some q) = i q
+
+  some_is : (a b : Option T) → Some a ≡ Some b → a ≡ b
+  some_is a b h = cc
+
+  -- a map that has the places of the first values, with one more
+  pub found_more : (values : List (Option T)) (i : ℕ) (old new : T → Option ℕ) (x : Option T) (place : ℕ) → Apart values → i < length values → get_or values i x ≡ x → place ≡ i
+      → ((v : T) → old v ≡ place_of same (Some v) (take i values)) → ((v : T) → new v ≡ cond (same x (Some v)) (Some place) (old v)) → (v : T) → new v ≡ place_of same (Some v) (take (i + 1) values)
+  found_more values i old new x place a l d p o n v =
+      let e : get_or values i None ≡ x = some_is (get_or values i None) (get_or values i x) (sym (slice_get-get_or values i None l) ∙ slice_get-get_or values i x l) ∙ d in
+      let first = take i values in
+      let count : length first ≡ i = length-take-le i values (omega arith) in
+      let absent : place_of same x first ≡ None = sym (unplaced_in same (option_eq-Decides eq law) first None x (λ j u f. let below : j < i = omega (arith, u, count) in let one = a j i (omega (arith, below, l)) l (sym (get_or-take i values j None below) ∙ f ∙ sym e) in omega (arith, below, one))) in
+      n v ∙ ap (λ q. cond (same x (Some v)) (Some place) q) (o v) ∙ ap (λ q. cond (same x (Some v)) (Some q) (place_of same (Some v) first)) (p ∙ sym count) ∙ sym (place_of-push same (option_eq-Decides eq law) first x (Some v) absent) ∙ ap (place_of same (Some v)) (ap (λ q. first ++ q ∷ []) (sym e) ∙ sym (take_more values i None l))
+
+-- whether a value is over a limit, by the values
+pub full_is : {T : Type 0} (number : T → ℤ) (code : Format) (width : ℕ) (limits : DictConstraints) (ks : List (Option T)) (r : Row) (b : Bool) (len : ℕ) → b ≡ (not (fits code (pos len)) || nat_le (most_values width limits) len) → len ≡ length ks → b ≡ numbers_over code width limits (map (number_or_null number) ks) r
+full_is number code width limits ks r b len e l = e ∙ ap (λ n. not (fits code (pos n)) || nat_le (most_values width limits) n) (l ∙ sym (length-map ks (number_or_null number)))
+
+-- a place that is within the limits has a code
+pub numbers_fit : (code : Format) (width : ℕ) (limits : DictConstraints) (values : List Row) (r : Row) → numbers_over code width limits values r ≡ false → IsTrue (fits code (pos (length values)))
+numbers_fit code width limits values r e = by (fits code (pos (length values))) (nat_le (most_values width limits) (length values)) e
+  where
+    by : (b c : Bool) → not b || c ≡ false → b ≡ true
+    by true c h = refl
+    by false c h = absurd (true≢false h)
+
+-- the bytes of so many values
+pub sum_widths : (w : ℕ) (rows : List Row) → sum_by (λ r. w) rows ≡ w * length rows
+sum_widths w [] = omega arith
+sum_widths w (r ∷ rows) = sum_by-cons (λ q. w) r rows ∙ ap (λ n. w + n) (sum_widths w rows) ∙ (let one = mul-suc w (length rows) in omega (arith, one))

@@ -1,0 +1,31 @@
+-- Types of codes.
+use Rattle.std.specs.Prelude.{◌≡◌, ℕ, ◌+◌, ◌-◌, ◌^◌, ◌≤◌, Bool, false, ◌&&◌, nat_lt, if◌then◌else◌, List}
+use Rattle.std.specs.List.{All}
+use Rattle.vortex_number.specs.PType.{greatest, is_signed}
+use Rattle.vortex_number.specs.declared.ptype.PType.{PType}
+use Rattle.vortex_number.specs.declared.ptype.PType.TheVariants.{U8, U16, U32, U64}
+use Rattle.vortex_dict.specs.declared.widths.DictCodes.{DictCodes}
+use Rattle.vortex_dict.specs.declared.widths.DictCodes.TheVariants as held
+
+-- the kind is the least without a sign that has all these numbers
+pub record IsLeastFor (numbers : List ℕ) (kind : PType) : Type 0 where
+  pub unsigned : is_signed kind ≡ false
+  pub has : All (λ n. n ≤ greatest kind) numbers
+  pub least : (other : PType) → is_signed other ≡ false → All (λ n. n ≤ greatest other) numbers → greatest kind ≤ greatest other
+
+-- how many values of so many bits there can be, as the number that the code type of an encoder is asked to have
+abbrev pub most_possible : ℕ → Bool → ℕ
+most_possible bits nullable = if nullable && nat_lt bits 64 then 2 ^ bits + 1 else 2 ^ bits - 1
+
+-- the codes, and their kind
+abbrev pub codes_in : DictCodes → List ℕ
+codes_in (held.U8 codes) = codes.items
+codes_in (held.U16 codes) = codes.items
+codes_in (held.U32 codes) = codes.items
+codes_in (held.U64 codes) = codes.items
+
+abbrev pub kind_in : DictCodes → PType
+kind_in (held.U8 codes) = U8
+kind_in (held.U16 codes) = U16
+kind_in (held.U32 codes) = U32
+kind_in (held.U64 codes) = U64

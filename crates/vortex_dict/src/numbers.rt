@@ -1,0 +1,275 @@
+//! Values without repeats, each found by a map.
+
+ghost use Rattle.std.specs.Prelude.{◌≡◌, ℕ, ◌+◌, ◌*◌, ◌^◌, ◌<◌, ◌≤◌, ◌↔◌, [], ◌∷◌, ◌++◌, length, get_or, IfOk, OnOk, OnErr, Err, Some, None, IsTrue, Option, cond, if◌then◌else◌};
+ghost use Rattle.std.specs.BTreeMap.{get};
+ghost use Rattle.std.specs.List.{IsDistinct};
+ghost use Rattle.std.specs.Option.{option_eq};
+ghost use Rattle.vortex_number.specs.PType.{byte_width_of};
+ghost use Rattle.vortex_codes.specs.Places.{place_of, with_key, code_in};
+ghost use Rattle.vortex_dict.specs.Numbers.{place_in, place_found, HasPlaces};
+
+use crate::native_value::NativeValue;
+use std::alloc::{AllocError, Global};
+use std::collections::{BTreeMap, HashMap};
+use std::hash::{FoldHasher, Hash, Hasher};
+use std::marker::Model;
+use vortex_codes::DictError;
+
+/// Values without repeats, each with its place as its code.
+///
+/// A value is found by its hash. Once far more values than are to be expected have hashes of one class, as those that were
+/// chosen to collide do, values are found by their order instead.
+#[derive(Drop)]
+pub(crate) struct Numbers<T: NativeValue> {
+    values: Vec<Option<T>>,
+    codes: HashMap<T, u32>,
+    ordered: Option<BTreeMap<T, u32>>,
+    null: Option<u32>,
+    /// How many values have hashes of each class.
+    classes: Vec<u32>,
+}
+
+impl<T: NativeValue> Model for Numbers<T> {
+    ghost use Rattle.std.specs.Prelude.{List, Option};
+
+    ghost Value = { List (Option T) };
+
+    ghost use Rattle.vortex_number.specs.PType.{byte_width_of};
+    ghost use Rattle.vortex_dict.specs.Numbers.{HasPlaces};
+
+    ghost view = { λ n. n.values.items };
+
+    ghost invariant = { λ n. HasPlaces T.eq T.cmp (byte_width_of T.PTYPE) n.values.items n.codes n.ordered n.null };
+}
+
+/// The place of a new value, and whether the class of its hash is crowded.
+#[derive(Drop)]
+struct Added {
+    place: u32,
+    crowded: bool,
+}
+
+/// How many classes of hashes there are.
+const CLASSES: usize = 4096;
+
+/// So many values in one class are no sign of values that were chosen to collide.
+const FEW: usize = 64;
+
+/// Counts a new value, and tells whether its class is crowded. The first few values are not counted.
+fn is_crowded<T: NativeValue>(
+    classes: &mut Vec<u32>,
+    value: Option<T>,
+    count: usize,
+) -> Result<bool, AllocError> {
+    let Some(value) = value else {
+        return Ok(false);
+    };
+    if count < FEW {
+        return Ok(false);
+    }
+    if classes.len() < CLASSES {
+        let alloc = *classes.allocator();
+        *classes = vec![in alloc; 0u32; CLASSES]?;
+    }
+    let mut hasher = FoldHasher::default();
+    value.hash(&mut hasher);
+    let hash = hasher.finish();
+    let class = ((hash ^ (hash >> 32)) & (CLASSES as u64 - 1)) as usize;
+    let Some(size) = classes.get_mut(class) else {
+        return Ok(false);
+    };
+    *size = size.saturating_add(1);
+    Ok(*size as usize > FEW + count / (CLASSES / 2))
+}
+
+/// The place that the maps have for a value.
+#[inline(always)]
+fn find<T: NativeValue>(
+    codes: &HashMap<T, u32>,
+    ordered: &Option<BTreeMap<T, u32>>,
+    value: T,
+) -> Option<u32>
+    ensures { result ≡ place_in T.eq T.cmp codes.now ordered.now value }
+{
+    match ordered {
+        None => codes.get(&value).copied(),
+        Some(ordered) => ordered.get(&value).copied(),
+    }
+}
+
+/// Gives a value its place.
+fn insert<T: NativeValue>(
+    codes: &mut HashMap<T, u32>,
+    ordered: &mut Option<BTreeMap<T, u32>>,
+    null: &mut Option<u32>,
+    value: Option<T>,
+    place: u32,
+) -> Result<(), DictError>
+    ensures inserted { OnOk result ((v : Option T) → place_found T.eq T.cmp codes.new ordered.new null.new v ≡ cond (option_eq T.eq value v) (Some place) (place_found T.eq T.cmp codes.old ordered.old null.old v)) }
+    ensures stays { OnErr result ((v : Option T) → place_found T.eq T.cmp codes.new ordered.new null.new v ≡ place_found T.eq T.cmp codes.old ordered.old null.old v) }
+    ensures memory { result ≡ Err DictError.TooLarge → ⊥ }
+{
+    let Some(value) = value else {
+        *null = Some(place);
+        return Ok(());
+    };
+    if let Some(ordered) = ordered {
+        let _old = ordered.insert(value, place)?;
+        return Ok(());
+    }
+    let _old = codes.insert(value, place)?;
+    Ok(())
+}
+
+/// Gives a value its place in a map by order.
+fn insert_in_order<T: NativeValue>(
+    ordered: &mut BTreeMap<T, u32>,
+    value: Option<T>,
+    place: u32,
+) -> Result<(), AllocError>
+    ensures { OnOk result ((v : T) → get T.cmp ordered.new v ≡ cond (option_eq T.eq value (Some v)) (Some place) (get T.cmp ordered.old v)) }
+{
+    let Some(value) = value else {
+        return Ok(());
+    };
+    let _old = ordered.insert(value, place)?;
+    Ok(())
+}
+
+/// The places of all values, by their order.
+fn order_of<T: NativeValue>(
+    alloc: Global,
+    values: &[Option<T>],
+) -> Result<BTreeMap<T, u32>, AllocError>
+    requires apart { (c d : ℕ) → c < length values.now → d < length values.now → get_or values.now c None ≡ get_or values.now d None → c ≡ d }
+    requires few { length values.now < 2 ^ 32 }
+    ensures { IfOk result (λ ordered. (v : T) → get T.cmp ordered v ≡ place_of (option_eq T.eq) (Some v) values.now) }
+{
+    let mut ordered = BTreeMap::new(alloc);
+    for place in 0..values.len() {
+        insert_in_order(&mut ordered, values[place], place as u32)?;
+    }
+    Ok(ordered)
+}
+
+/// Whether a value of this width may come behind so many others.
+fn has_room(width: usize, count: usize) -> bool
+    requires width { width ≤ 8 }
+    requires few { count < 2 ^ 32 }
+    ensures { IsTrue result ↔ (width * (count + 1) < 2 ^ 32) }
+{
+    width * (count + 1) <= u32::MAX as usize
+}
+
+impl<T: NativeValue> Numbers<T> {
+    pub(crate) fn new(alloc: Global) -> Numbers<T>
+        ensures { result ≡ [] }
+    {
+        Numbers {
+            values: Vec::new(alloc),
+            codes: HashMap::new(alloc),
+            ordered: None,
+            null: None,
+            classes: Vec::new(alloc),
+        }
+    }
+
+    pub(crate) fn len(&self) -> usize
+        ensures count { result ≡ length self.now }
+        ensures small { result < 2 ^ 32 }
+    {
+        let _ = &self.null;
+        self.values.len()
+    }
+
+    /// No value stands twice, and they have fewer than 2^32 bytes.
+    pub(crate) fn law(&self)
+        ensures distinct { IsDistinct (option_eq T.eq) self.now }
+        ensures small { byte_width_of T.PTYPE * length self.now < 2 ^ 32 }
+    {
+        let _ = &self.null;
+    }
+
+    pub(crate) fn as_slice(&self) -> &[Option<T>]
+        ensures { result.now ≡ self.now }
+    {
+        self.values.as_slice()
+    }
+
+    /// The place of a value.
+    #[inline(always)]
+    fn place(&self, value: Option<T>) -> Option<u32>
+        ensures { result ≡ place_of (option_eq T.eq) value self.now }
+    {
+        match value {
+            None => self.null,
+            Some(value) => find(&self.codes, &self.ordered, value),
+        }
+    }
+
+    /// Adds a value that is not there. After a refusal nothing has changed.
+    fn add(&mut self, value: Option<T>) -> Result<Added, DictError>
+        requires { place_of (option_eq T.eq) value self.old ≡ None }
+        ensures added { OnOk result (self.new ≡ self.old ++ value ∷ []) }
+        ensures place { IfOk result (λ a. a.place ≡ length self.old) }
+        ensures stays { OnErr result (self.new ≡ self.old) }
+        ensures too_large { (result ≡ Err DictError.TooLarge) ↔ (2 ^ 32 ≤ byte_width_of T.PTYPE * (length self.old + 1)) }
+    {
+        let count = self.values.len();
+        if !has_room(T::PTYPE.byte_width(), count) {
+            return Err(DictError::TooLarge);
+        }
+        if count >= u32::MAX as usize {
+            return Err(DictError::OutOfMemory);
+        }
+        self.values.reserve(1)?;
+        let crowded = is_crowded(&mut self.classes, value, count)?;
+        let place = count as u32;
+        insert(
+            &mut self.codes,
+            &mut self.ordered,
+            &mut self.null,
+            value,
+            place,
+        )?;
+        self.values.push_reserved(value);
+        Ok(Added { place, crowded })
+    }
+
+    /// Finds values by their order from here on, where memory allows.
+    fn put_in_order(&mut self)
+        ensures { self.new ≡ self.old }
+    {
+        if self.ordered.is_some() {
+            return;
+        }
+        let alloc = *self.values.allocator();
+        if let Ok(ordered) = order_of(alloc, self.values.as_slice()) {
+            self.ordered = Some(ordered);
+        }
+    }
+
+    /// The place of a value, which is added where it is new and may be added, or nothing where it is new and may not.
+    #[inline(always)]
+    pub(crate) fn find_or_add(
+        &mut self,
+        value: Option<T>,
+        may_add: bool,
+    ) -> Result<Option<u32>, DictError>
+        ensures values { OnOk result (self.new ≡ (if may_add then with_key (option_eq T.eq) self.old value else self.old)) }
+        ensures code { IfOk result (λ o. o ≡ (if may_add then Some (code_in (option_eq T.eq) self.old value) else place_of (option_eq T.eq) value self.old)) }
+        ensures stays { OnErr result (self.new ≡ self.old) }
+        ensures new { OnErr result (IsTrue may_add × (place_of (option_eq T.eq) value self.old ≡ None)) }
+        ensures too_large { result ≡ Err DictError.TooLarge → 2 ^ 32 ≤ byte_width_of T.PTYPE * (length self.old + 1) }
+    {
+        let found = self.place(value);
+        if found.is_some() || !may_add {
+            return Ok(found);
+        }
+        let added = self.add(value)?;
+        if added.crowded {
+            self.put_in_order();
+        }
+        Ok(Some(added.place))
+    }
+}

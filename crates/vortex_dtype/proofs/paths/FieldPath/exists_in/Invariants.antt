@@ -1,0 +1,9 @@
+use Rattle.std.proofs.Common.{◌≡◌, drop}
+use Rattle.vortex_terms.specs.Path.{resolved}
+use Rattle.vortex_dtype.specs.DTypes.{term_of}
+use Rattle.vortex_dtype.specs.Paths.{parts_of}
+use Rattle.vortex_dtype.specs.TypeRefs.{ref_term}
+use Rattle.vortex_dtype.proofs.paths.FieldPath.exists_in.Given as goal
+
+abbrev pub invariant-loop-field : goal.invariant-loop-field
+invariant-loop-field l = resolved (ref_term l.inner) (parts_of (drop l.field-index l.field-items)) ≡ resolved (term_of l.dtype) l.self

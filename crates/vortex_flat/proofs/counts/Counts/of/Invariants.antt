@@ -1,7 +1,0 @@
-use Rattle.std.proofs.Common.{drop}
-use Rattle.vortex_flat.specs.Item.{slots_from}
-use Rattle.vortex_flat.proofs.ItemLemmas.{Counting}
-use Rattle.vortex_flat.proofs.counts.Counts.of.Given as goal
-
-abbrev pub invariant-loop-slot : goal.invariant-loop-slot
-invariant-loop-slot l = Counting l.counts (slots_from (drop l.slot-index l.slots)) (slots_from l.slots) l.slot-index

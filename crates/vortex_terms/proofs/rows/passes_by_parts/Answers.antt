@@ -1,5 +1,0 @@
-use Rattle.vortex_terms.specs.PartLaws.{passes-parts}
-use Rattle.vortex_terms.proofs.rows.passes_by_parts.Goals as goal
-
-pub returns : goal.returns
-returns c = passes-parts
