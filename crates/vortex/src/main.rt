@@ -9,7 +9,7 @@ use std::process::ExitCode;
 use std::rt::Env;
 use std::sync::ledger::{Blank, Ledger};
 use std::{env, io};
-use vortex_ipc::{ReadSource, WriteSink};
+use vortex_stream::{ReadSource, WriteSink};
 use vortex_select::run;
 use vortex_steps::Steps;
 

@@ -11,8 +11,8 @@ use Rattle.vortex_flat.specs.Table.{root_at}
 use Rattle.vortex_flat.specs.Targets.{number_field, table_field}
 use Rattle.vortex_flat.proofs.TableLemmas.{bind_some, guard_some}
 use Rattle.vortex_prelude.specs.Absent.{or_zero}
-use Rattle.vortex_ipc.specs.Header.{Content, array_content, MessageTable, message_table_of, content_at, header_of}
-use Rattle.vortex_ipc.specs.Stream.{IsMessage}
+use Rattle.vortex_stream.specs.Header.{Content, array_content, MessageTable, message_table_of, content_at, header_of}
+use Rattle.vortex_stream.specs.Stream.{IsMessage}
 use Rattle.vortex_select.specs.Column.{i64_column, i64_values, BodyParts, body_parts, buffer_in, descriptors_at, primitive_node_at, primitive_buffer_in, primitive_buffer_of, IsPrimitiveArray}
 use Rattle.vortex_select.specs.inner.Decoding.{names_at, prefix_of, length_prefixed_of, is_primitive, primitive_count, PrimitiveHeader, primitive_header_of, primitive_array_of}
 use Rattle.vortex_select.proofs.Framing.{prefix_found, length_prefixed_found, regroup}

@@ -17,8 +17,8 @@ use Rattle.vortex_prelude.specs.Chain.{◌>>=◌}
 use Rattle.vortex_flat.specs.Table.{table_at, field_in}
 use Rattle.vortex_flat.specs.Targets.{vector_at}
 use Rattle.vortex_flat.proofs.NumbersLemmas.{spell_4, spell_8}
-use Rattle.vortex_ipc.specs.Header.{array_content, message_table_of, content_at, header_of}
-use Rattle.vortex_ipc.specs.Stream.{IsMessage}
+use Rattle.vortex_stream.specs.Header.{array_content, message_table_of, content_at, header_of}
+use Rattle.vortex_stream.specs.Stream.{IsMessage}
 use Rattle.vortex_select.specs.Column.{BodyParts, BufferDescriptor, descriptor_of, i64_column, i64_values, body_parts, buffers_in, buffer_in, primitive_node_at, primitive_buffer_in, primitive_buffer_of, IsPrimitiveArray}
 use Rattle.vortex_select.specs.Layout.{array_header, array_message, body_end}
 

@@ -11,8 +11,8 @@ use Rattle.vortex_prelude.specs.Chain.{◌>>=◌}
 use Rattle.vortex_flat.specs.Targets.{number_field}
 use Rattle.vortex_flat.proofs.TableLemmas.{bind_some}
 use Rattle.vortex_prelude.specs.Absent.{or_zero}
-use Rattle.vortex_ipc.specs.Header.{Content, array_content, buffer_content, type_content, Header, MessageTable, message_table_of, content_at, header_of}
-use Rattle.vortex_ipc.specs.Stream.{IsMessage, AreArrays}
+use Rattle.vortex_stream.specs.Header.{Content, array_content, buffer_content, type_content, Header, MessageTable, message_table_of, content_at, header_of}
+use Rattle.vortex_stream.specs.Stream.{IsMessage, AreArrays}
 use Rattle.vortex_select.specs.Column.{ColumnType, i64_column, i64_values, column_type_of, body_parts, primitive_buffer_in, primitive_buffer_of, IsPrimitiveArray}
 use Rattle.vortex_select.specs.inner.Decoding.{names_at, prefix_of, length_prefixed_of, type_size_of, after_type_of, is_primitive, primitive_count, primitive_header_of, primitive_array_of}
 use Rattle.vortex_select.specs.Theorem.{IsColumnStream, IsSomeStream}

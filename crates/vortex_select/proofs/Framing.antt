@@ -5,8 +5,8 @@ use Rattle.std.proofs.lemmas.List.{length-take}
 use Rattle.vortex_flat.specs.Numbers.{little_endian, number}
 use Rattle.vortex_prelude.specs.Chain.{◌>>=◌}
 use Rattle.vortex_flat.proofs.TableLemmas.{bind_some, guard_some}
-use Rattle.vortex_ipc.specs.Header.{type_content, message_table_of, content_at, header_of}
-use Rattle.vortex_ipc.specs.Stream.{IsMessage}
+use Rattle.vortex_stream.specs.Header.{type_content, message_table_of, content_at, header_of}
+use Rattle.vortex_stream.specs.Stream.{IsMessage}
 use Rattle.vortex_select.specs.Column.{ColumnType, i64_column, column_type_of}
 use Rattle.vortex_select.specs.inner.Decoding.{prefix_of, length_prefixed_of, type_size_of, after_type_of}
 

@@ -5,9 +5,9 @@ use Rattle.std.proofs.Math.Seq.{take-length}
 use Rattle.std.specs.Ordering.{int_cmp}
 use Rattle.std.proofs.lemmas.List.{map-append, length-map, take-append-le}
 use Rattle.std.proofs.lemmas.List.Sums.{sum_by-append}
-use Rattle.vortex_ipc.specs.Header.{Content, array_content, type_content}
-use Rattle.vortex_ipc.specs.Stream.{IsMessage, AreArrays}
-use Rattle.vortex_ipc.proofs.StreamLemmas.{message_bytes, message_append, arrays_append, one_array}
+use Rattle.vortex_stream.specs.Header.{Content, array_content, type_content}
+use Rattle.vortex_stream.specs.Stream.{IsMessage, AreArrays}
+use Rattle.vortex_stream.proofs.StreamLemmas.{message_bytes, message_append, arrays_append, one_array}
 use Rattle.std.specs.Io.KnownBytes.{Appends, Keeps}
 use Rattle.vortex_select.specs.Column.{ColumnType, i64_column, i64_values, IsPrimitiveArray}
 use Rattle.vortex_select.specs.Layout.{type_message, array_message, body_end, AreLaidOut}

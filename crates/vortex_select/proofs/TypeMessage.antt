@@ -2,8 +2,8 @@
 use Rattle.std.proofs.Common.{◌≡◌, ℕ, List, [], take, drop, Some, refl}
 use Rattle.vortex_flat.specs.Numbers.{number}
 use Rattle.vortex_flat.specs.Table.{table_at, field_in}
-use Rattle.vortex_ipc.specs.Header.{type_content, message_table_of, content_at, header_of}
-use Rattle.vortex_ipc.specs.Stream.{IsMessage}
+use Rattle.vortex_stream.specs.Header.{type_content, message_table_of, content_at, header_of}
+use Rattle.vortex_stream.specs.Stream.{IsMessage}
 use Rattle.vortex_select.specs.Column.{i64_column, column_type_of}
 use Rattle.vortex_select.specs.Layout.{type_message}
 

@@ -1,10 +1,10 @@
 -- What stands behind each answer of a run, which is None where the stream was selected, and else
 -- its fault.
 use Rattle.std.specs.Prelude.{◌≡◌, ℕ, ◌-◌, ◌^◌, List, Option, Some, None, IfSome}
-use Rattle.vortex_ipc.specs.Counts.{with_fault, with_flush}
-use Rattle.vortex_ipc.specs.Reading.{ReadToEnd, ReadToFault, ReadToLimit, ReadWithoutFault}
-use Rattle.vortex_ipc.specs.declared.counts.SourceCounts.{SourceCounts}
-use Rattle.vortex_ipc.specs.declared.counts.SinkCounts.{SinkCounts}
+use Rattle.vortex_stream.specs.Counts.{with_fault, with_flush}
+use Rattle.vortex_stream.specs.Reading.{ReadToEnd, ReadToFault, ReadToLimit, ReadWithoutFault}
+use Rattle.vortex_stream.specs.declared.counts.SourceCounts.{SourceCounts}
+use Rattle.vortex_stream.specs.declared.counts.SinkCounts.{SinkCounts}
 use Rattle.vortex_select.specs.Words.{IsQuery}
 use Rattle.vortex_select.specs.Report.{no_counts}
 use Rattle.vortex_select.specs.Theorem.{IsSomeStream, WroteAll, WrotePart}

@@ -1,7 +1,7 @@
 -- What a run wrote: all of it after status 0, a part of it after a failed write.
 use Rattle.std.specs.Prelude.{◌≡◌, ℕ, suc, ◌<◌, ◌≤◌, List, Option, ◌++◌, length, take, ℤ, ◌⊎◌}
 use Rattle.std.specs.Io.KnownBytes.{Appends}
-use Rattle.vortex_ipc.specs.Stream.{IsStream}
+use Rattle.vortex_stream.specs.Stream.{IsStream}
 use Rattle.vortex_select.specs.Column.{ColumnType, IsColumnType, IsPrimitiveArray}
 use Rattle.vortex_select.specs.Layout.{IsLaidOut}
 use Rattle.vortex_select.specs.Selection.{selected, counts_of}

@@ -4,7 +4,7 @@
 ghost use Rattle.std.specs.Prelude.{Some};
 ghost use Rattle.std.specs.Option.{option_map};
 ghost use Rattle.vortex_flat.specs.Answers.{Answers};
-ghost use Rattle.vortex_ipc.specs.Header.{message_table_of};
+ghost use Rattle.vortex_stream.specs.Header.{message_table_of};
 ghost use Rattle.vortex_select.specs.Column.{column_type_of, i64_column};
 ghost use Rattle.vortex_select.specs.inner.Decoding.{prefix_of, length_prefixed_of, type_size_of, after_type_of};
 ghost use Rattle.vortex_select.specs.inner.Views.{message_view, pair_view};
@@ -13,7 +13,7 @@ use crate::schema::{
     DTYPE_INNER, DTYPE_KIND, NEVER_NULL, PRIMITIVE, PRIMITIVE_NULLABLE, PRIMITIVE_PTYPE, PTYPE_I64,
 };
 use vortex_flat::{FlatError, Table, root, u32_at};
-use vortex_ipc::schema::{
+use vortex_stream::schema::{
     DTYPE, MESSAGE_BODY_SIZE, MESSAGE_INNER, MESSAGE_KIND, MESSAGE_VERSION, VERSION,
 };
 
@@ -45,7 +45,7 @@ pub(crate) fn length_prefixed(bytes: &[u8]) -> Result<(&[u8], &[u8]), FlatError>
 }
 
 /// What the table of a header says, where its version is 0.
-#[tactic(auto, unfolding(vortex_ipc::specs::Header::message_table_of))]
+#[tactic(auto, unfolding(vortex_stream::specs::Header::message_table_of))]
 pub(crate) fn message_table(header: &[u8]) -> Result<FoundMessage<'_>, FlatError>
     ensures { Answers message_view result
         (option_map (λ m. (header.now, m)) (message_table_of header.now)) }

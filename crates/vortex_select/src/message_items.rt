@@ -7,7 +7,7 @@ ghost use Rattle.vortex_select.specs.inner.LayoutLaws.{array_slots, array_tree, 
 use crate::schema::{NEVER_NULL, PRIMITIVE, PRIMITIVE_NAME, PTYPE_I64};
 use std::alloc::{AllocError, Global};
 use vortex_flat::{Item, Items, Slot, Slots};
-use vortex_ipc::schema::VERSION;
+use vortex_stream::schema::VERSION;
 
 /// The header of a message: its version, its kind with what is told of it, and the size of the
 /// body.

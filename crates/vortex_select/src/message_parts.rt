@@ -10,7 +10,7 @@ ghost use Rattle.vortex_select.specs.Layout.{array_header, body_end, type_messag
 use crate::message_items::{array_content, column_type, header, primitive_body};
 use std::alloc::{AllocError, Global};
 use vortex_flat::{FlatError, Item, Items, Slots};
-use vortex_ipc::schema::{ARRAY, DTYPE};
+use vortex_stream::schema::{ARRAY, DTYPE};
 
 /// The layout of a table that has one, so that nothing but lack of memory is in the way.
 fn lay_out(alloc: Global, root: &Item) -> Result<Vec<u8>, AllocError>

@@ -2,7 +2,7 @@
 
 ghost use Rattle.std.specs.Prelude.{◌≡◌, ◌<◌, ◌^◌, Some, None, IfOk, length};
 ghost use Rattle.vortex_flat.specs.Answers.{Answers};
-ghost use Rattle.vortex_ipc.specs.Header.{names_in};
+ghost use Rattle.vortex_stream.specs.Header.{names_in};
 ghost use Rattle.vortex_select.specs.Column.{body_parts, buffer_in, descriptors_at, descriptors_in, primitive_node_at, primitive_buffer_of};
 ghost use Rattle.vortex_select.specs.inner.Decoding.{names_at, primitive_count, primitive_header_of, primitive_array_of};
 ghost use Rattle.vortex_select.specs.inner.Views.{pair_view, parts_view, primitive_header_view, primitive_node_view};
@@ -13,7 +13,7 @@ use crate::schema::{
     PRIMITIVE_NAME,
 };
 use vortex_flat::{FlatError, Table, Vector, root, u32_at};
-use vortex_ipc::schema::{ARRAY, ARRAY_NAMES, ARRAY_ROWS, MOST_NAMES};
+use vortex_stream::schema::{ARRAY, ARRAY_NAMES, ARRAY_ROWS, MOST_NAMES};
 
 /// What the header of a primitive array says.
 #[derive(Clone, Copy)]

@@ -1,7 +1,7 @@
 //! The top call.
 
 ghost use Rattle.std.specs.Prelude.{◌≡◌, Some, None, IfSome, IfOk, OnOk, IfErr};
-ghost use Rattle.vortex_ipc.specs.Writing.{LeavesNote};
+ghost use Rattle.vortex_stream.specs.Writing.{LeavesNote};
 ghost use Rattle.vortex_select.specs.Answer.{HasCause, HasSelected, SinkStands, SourceWent};
 ghost use Rattle.vortex_select.specs.Report.{status_of, note_of};
 ghost use Rattle.vortex_select.specs.inner.Stops.{IsBeforeWriting, StopsWith};
@@ -16,7 +16,7 @@ use crate::whole_output::{counts_within, output_for};
 use crate::words::{Query, query_of};
 use std::alloc::Global;
 use std::sync::ledger::Ledger;
-use vortex_ipc::{Sink, SinkFailed, Source, write_all};
+use vortex_stream::{Sink, SinkFailed, Source, write_all};
 use vortex_steps::Steps;
 
 /// Does what the words ask for: reads a stream of `source` to its end, writes the stream of the

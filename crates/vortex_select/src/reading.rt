@@ -1,13 +1,13 @@
 //! Reading a source to its end.
 
 ghost use Rattle.std.specs.Prelude.{◌≡◌, IfOk, IfErr, IfSome, OnOk};
-ghost use Rattle.vortex_ipc.specs.Reading.{ReadToEnd};
+ghost use Rattle.vortex_stream.specs.Reading.{ReadToEnd};
 ghost use Rattle.vortex_select.specs.Answer.{most_reads};
 ghost use Rattle.vortex_select.specs.inner.Stops.{StopsReading};
 
 use crate::error::SelectError;
 use std::alloc::Global;
-use vortex_ipc::{Source, SourceFailed};
+use vortex_stream::{Source, SourceFailed};
 
 /// How many bytes each read asks for.
 const PIECE: usize = 4096;

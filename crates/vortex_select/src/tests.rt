@@ -5,7 +5,7 @@ use std::alloc::{AllocError, Global};
 use std::marker::Brand;
 use std::sync::ledger::{Blank, Ledger};
 use std::test::Fail;
-use vortex_ipc::{VecSink, VecSource};
+use vortex_stream::{VecSink, VecSource};
 use vortex_steps::Steps;
 
 // The message of a type: Primitive I64, never null.

@@ -7,8 +7,8 @@ use Rattle.vortex_flat.specs.Numbers.{number}
 use Rattle.vortex_prelude.specs.Chain.{◌>>=◌}
 use Rattle.vortex_flat.specs.Targets.{number_field, vector_field, or_empty}
 use Rattle.vortex_prelude.specs.Absent.{or_zero}
-use Rattle.vortex_ipc.specs.Header.{message_table_of, names_in}
-use Rattle.vortex_ipc.specs.declared.schema.TheConstants.{ARRAY, DTYPE, ARRAY_ROWS, ARRAY_NAMES}
+use Rattle.vortex_stream.specs.Header.{message_table_of, names_in}
+use Rattle.vortex_stream.specs.declared.schema.TheConstants.{ARRAY, DTYPE, ARRAY_ROWS, ARRAY_NAMES}
 use Rattle.vortex_select.specs.Column.{primitive_name, column_type_of, primitive_buffer_of}
 
 -- the first n bytes, and those after them, where there are as many

@@ -4,7 +4,7 @@ use Rattle.std.specs.Int.{w32, to_le_bytes, bytes_low_first}
 use Rattle.std.proofs.Common.{ap, arith}
 use Rattle.vortex_flat.specs.Tree.{one, two, four, eight, Tree, table, offsets, bytes, text, numbers, records, Slots, no_slots, number_slot, target_slot, no_trees, tree}
 use Rattle.vortex_flat.specs.Layout.{layout_of}
-use Rattle.vortex_ipc.specs.declared.schema.TheConstants.{VERSION, ARRAY, DTYPE}
+use Rattle.vortex_stream.specs.declared.schema.TheConstants.{VERSION, ARRAY, DTYPE}
 use Rattle.vortex_select.specs.Column.{primitive_name}
 use Rattle.vortex_select.specs.declared.schema.TheConstants.{PRIMITIVE, PTYPE_I64, NEVER_NULL}
 use Rattle.vortex_select.specs.Layout.{type_message, array_header, flat_to_length}

@@ -1,7 +1,7 @@
 -- What stands when reading or selecting stops.
 use Rattle.std.specs.Prelude.{◌≡◌, ℕ, List, Option, IfSome}
-use Rattle.vortex_ipc.specs.Reading.{ReadToFault, ReadToLimit, ReadWithoutFault}
-use Rattle.vortex_ipc.specs.declared.counts.SourceCounts.{SourceCounts}
+use Rattle.vortex_stream.specs.Reading.{ReadToFault, ReadToLimit, ReadWithoutFault}
+use Rattle.vortex_stream.specs.declared.counts.SourceCounts.{SourceCounts}
 use Rattle.vortex_select.specs.Answer.{most_reads}
 use Rattle.vortex_select.specs.Report.{no_counts}
 use Rattle.vortex_select.specs.Theorem.{WrotePart}

@@ -1,7 +1,7 @@
 -- What contracts see of the readers' structs.
 use Rattle.std.specs.Prelude.{ℕ, List}
 use Rattle.std.specs.Borrow.{Bor}
-use Rattle.vortex_ipc.specs.Header.{MessageTable}
+use Rattle.vortex_stream.specs.Header.{MessageTable}
 use Rattle.vortex_select.specs.Column.{BodyParts, PrimitiveNode}
 use Rattle.vortex_select.specs.inner.Decoding.{PrimitiveHeader}
 use Rattle.vortex_select.specs.declared.primitive.FoundHeader.{FoundHeader}

@@ -1,10 +1,10 @@
 use Rattle.std.proofs.Common.{◌≡◌, ◌∙◌, ℕ, List, Option, Result, Ok, Err, inl, inr, ap, subst}
 use Rattle.std.specs.Prelude.{OnOk, OnErr}
 use Rattle.std.specs.Io.KnownBytes.{Appends, Keeps}
-use Rattle.vortex_ipc.specs.Counts.{with_fault, with_flush}
-use Rattle.vortex_ipc.specs.Writing.{LeavesNote}
-use Rattle.vortex_ipc.specs.declared.counts.SinkCounts.{SinkCounts}
-use Rattle.vortex_ipc.proofs.CallLemmas.{whole_prefix}
+use Rattle.vortex_stream.specs.Counts.{with_fault, with_flush}
+use Rattle.vortex_stream.specs.Writing.{LeavesNote}
+use Rattle.vortex_stream.specs.declared.counts.SinkCounts.{SinkCounts}
+use Rattle.vortex_stream.proofs.CallLemmas.{whole_prefix}
 use Rattle.vortex_select.proofs.SelectionLemmas.{Appends-kept}
 use Rattle.vortex_select.proofs.program.leave.Goals as goal
 

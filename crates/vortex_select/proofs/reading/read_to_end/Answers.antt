@@ -1,7 +1,7 @@
 use Rattle.std.proofs.Common.{◌≡◌, ◌++◌, List, ℕ, take, Result, Ok, Err, sym, subst, arith, rules}
 use Rattle.std.specs.Prelude.{IfErr, IsErr}
 use Rattle.std.specs.Result.{IsErrAnd}
-use Rattle.vortex_ipc.proofs.ReadingLemmas.{Gave, gave_none, gave_more, gave_end, gave_fault, gave_some}
+use Rattle.vortex_stream.proofs.ReadingLemmas.{Gave, gave_none, gave_more, gave_end, gave_fault, gave_some}
 use Rattle.vortex_select.specs.inner.Stops.{StopsReading}
 use Rattle.vortex_select.specs.declared.error.SelectError.{SelectError}
 use Rattle.vortex_select.specs.declared.error.SelectError.TheVariants.{OutOfMemory}

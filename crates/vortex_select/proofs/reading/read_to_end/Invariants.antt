@@ -1,4 +1,4 @@
-use Rattle.vortex_ipc.proofs.ReadingLemmas.{Gave}
+use Rattle.vortex_stream.proofs.ReadingLemmas.{Gave}
 use Rattle.vortex_select.proofs.reading.read_to_end.Given as goal
 
 -- each read so far gave a byte at least, and all of them are kept

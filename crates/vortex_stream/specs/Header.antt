@@ -9,13 +9,27 @@ use Rattle.vortex_prelude.specs.Chain.{◌>>=◌}
 use Rattle.vortex_prelude.specs.Elements.{elements}
 use Rattle.vortex_flat.specs.Table.{root_at}
 use Rattle.vortex_flat.specs.Targets.{VectorShape, number_field, table_field, vector_field, or_empty, text_element}
-use Rattle.vortex_ipc.specs.declared.schema.TheConstants.{MESSAGE_VERSION, MESSAGE_KIND, MESSAGE_INNER, MESSAGE_BODY_SIZE, VERSION, ARRAY, BUFFER, DTYPE, ARRAY_ROWS, ARRAY_NAMES, MOST_NAMES, BUFFER_ALIGNMENT}
+use Rattle.vortex_stream.specs.declared.kind.MessageKind.{MessageKind}
+use Rattle.vortex_stream.specs.declared.kind.MessageKind.TheVariants.{Array, Buffer, DType}
+use Rattle.vortex_stream.specs.declared.schema.TheConstants.{MESSAGE_VERSION, MESSAGE_KIND, MESSAGE_INNER, MESSAGE_BODY_SIZE, VERSION, ARRAY, BUFFER, DTYPE, ARRAY_ROWS, ARRAY_NAMES, MOST_NAMES, BUFFER_ALIGNMENT}
 
 -- what a message holds: an array of so many rows, in encodings of these names; a buffer; or a type
 pub data Content : Type 0 where
   array_content : (rows : ℕ) (names : List (List ℕ)) → Content
   buffer_content : (alignment_exponent : ℕ) → Content
   type_content : Content
+
+-- the kind of what a message holds
+abbrev pub kind_of : Content → MessageKind
+kind_of (array_content rows names) = Array
+kind_of (buffer_content alignment_exponent) = Buffer
+kind_of type_content = DType
+
+-- the number of a kind in a header
+abbrev pub kind_number : MessageKind → ℕ
+kind_number Array = ARRAY
+kind_number Buffer = BUFFER
+kind_number DType = DTYPE
 
 -- what a header says: what the message holds, and the size of its body
 pub record Header : Type 0 where

@@ -1,7 +1,7 @@
 -- Messages and streams (this project's own framing).
 use Rattle.std.specs.Prelude.{◌≡◌, ℕ, List, [], ◌∷◌, ◌++◌, length, Some}
 use Rattle.vortex_flat.specs.Numbers.{little_endian}
-use Rattle.vortex_ipc.specs.Header.{Content, array_content, type_content, header_of}
+use Rattle.vortex_stream.specs.Header.{Content, array_content, type_content, header_of}
 
 -- The bytes are a message, and what follows it: four bytes that are the length of the header, the
 -- header, and a body of the size that it tells.

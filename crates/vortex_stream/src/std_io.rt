@@ -2,7 +2,7 @@
 //! `remaining` and the writer's `contents` tell, which is nothing for the standard streams.
 
 ghost use Rattle.std.specs.Prelude.{◌≡◌};
-ghost use Rattle.vortex_ipc.specs.Counts.{no_sink_counts, no_source_counts};
+ghost use Rattle.vortex_stream.specs.Counts.{no_sink_counts, no_source_counts};
 
 use crate::counts::{SinkCounts, SourceCounts};
 use crate::sink::{Sink, SinkFailed};

@@ -1,7 +1,7 @@
 -- Messages and arrays of a stream, cut and joined.
 use Rattle.std.proofs.Common.{◌≡◌, ℕ, List, [], ◌∷◌, ◌++◌, refl, sym, ap, subst, ◌∙◌, append_assoc, append-nil}
-use Rattle.vortex_ipc.specs.Header.{Content, array_content}
-use Rattle.vortex_ipc.specs.Stream.{IsMessage, AreArrays}
+use Rattle.vortex_stream.specs.Header.{Content, array_content}
+use Rattle.vortex_stream.specs.Stream.{IsMessage, AreArrays}
 
 -- more bytes behind a message
 pub message_append : (bytes : List ℕ) (content : Content) (body rest more : List ℕ) → IsMessage bytes content body rest → IsMessage (bytes ++ more) content body (rest ++ more)

@@ -2,8 +2,8 @@
 
 ghost use Rattle.std.specs.Prelude.{◌≡◌, ◌+◌, ◌<◌, ◌≤◌, min, Some, length, take, drop, IfOk, IfErr, OnOk, OnErr, IsErr, is_err, true};
 ghost use Rattle.std.specs.Io.KnownBytes.{ReadConsumes, WriteAppends, Keeps};
-ghost use Rattle.vortex_ipc.specs.Counts.{counts_of_read, raised_by, with_fault, with_flush};
-ghost use Rattle.vortex_ipc.specs.InMemory.{allowed, contains, new_source, new_sink, after_read, after_write, after_flush};
+ghost use Rattle.vortex_stream.specs.Counts.{counts_of_read, raised_by, with_fault, with_flush};
+ghost use Rattle.vortex_stream.specs.InMemory.{allowed, contains, new_source, new_sink, after_read, after_write, after_flush};
 
 use crate::counts::{SinkCounts, SourceCounts};
 use crate::error::IpcError;
@@ -44,7 +44,7 @@ pub struct VecSource {
 
 impl Model for VecSource {
     ghost use Rattle.std.specs.Prelude.{drop, vec_len, ◌≤◌};
-    ghost use Rattle.vortex_ipc.specs.InMemory.{SourceState};
+    ghost use Rattle.vortex_stream.specs.InMemory.{SourceState};
 
     ghost Value = { SourceState };
 
@@ -157,7 +157,7 @@ pub struct VecSink {
 
 impl Model for VecSink {
     ghost use Rattle.std.specs.Prelude.{vec_capacity, ◌≤◌};
-    ghost use Rattle.vortex_ipc.specs.InMemory.{SinkState};
+    ghost use Rattle.vortex_stream.specs.InMemory.{SinkState};
 
     ghost Value = { SinkState };
 

@@ -1,8 +1,8 @@
 -- What one call did with a source, by its counts and the bytes still to come, before and after.
 use Rattle.std.specs.Prelude.{◌≡◌, ℕ, ◌+◌, ◌≤◌, List, Option, length}
 use Rattle.std.specs.Io.KnownBytes.{Consumes, IsAtEnd}
-use Rattle.vortex_ipc.specs.Counts.{raised_by}
-use Rattle.vortex_ipc.specs.declared.counts.SourceCounts.{SourceCounts}
+use Rattle.vortex_stream.specs.Counts.{raised_by}
+use Rattle.vortex_stream.specs.declared.counts.SourceCounts.{SourceCounts}
 
 -- The call counts by itself as `call` says. It made at most so many reads, stopped at the first
 -- that told the end or failed, was given a byte for each other one, all in all, and lost none.

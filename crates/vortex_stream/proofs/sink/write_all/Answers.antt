@@ -1,6 +1,6 @@
 use Rattle.std.proofs.Common.{◌∙◌}
-use Rattle.vortex_ipc.proofs.Written.{written_more}
-use Rattle.vortex_ipc.proofs.sink.write_all.Goals as goal
+use Rattle.vortex_stream.proofs.Written.{written_more}
+use Rattle.vortex_stream.proofs.sink.write_all.Goals as goal
 
 pub loop-rest-preserved : goal.loop-rest-preserved
 loop-rest-preserved g c =

@@ -2,8 +2,8 @@
 
 ghost use Rattle.std.specs.Prelude.{◌≡◌, ℕ, ◌<◌, ◌≤◌, List, Option, length, take, IfOk, IfErr, OnOk, OnErr};
 ghost use Rattle.std.specs.Io.KnownBytes.{WriteAppends, Appends, Keeps};
-ghost use Rattle.vortex_ipc.specs.Counts.{with_fault, with_flush};
-ghost use Rattle.vortex_ipc.specs.declared.counts.SinkCounts.{SinkCounts};
+ghost use Rattle.vortex_stream.specs.Counts.{with_fault, with_flush};
+ghost use Rattle.vortex_stream.specs.declared.counts.SinkCounts.{SinkCounts};
 
 /// A write or a flush that failed. Why, the sink alone knows.
 #[derive(Clone, Copy, Debug, PartialEq, Eq)]

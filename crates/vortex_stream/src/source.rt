@@ -2,8 +2,8 @@
 
 ghost use Rattle.std.specs.Prelude.{◌≡◌, ℕ, ◌≤◌, List, Option, length, IfOk};
 ghost use Rattle.std.specs.Io.KnownBytes.{ReadConsumes};
-ghost use Rattle.vortex_ipc.specs.Counts.{counts_of_read, raised_by};
-ghost use Rattle.vortex_ipc.specs.declared.counts.SourceCounts.{SourceCounts};
+ghost use Rattle.vortex_stream.specs.Counts.{counts_of_read, raised_by};
+ghost use Rattle.vortex_stream.specs.declared.counts.SourceCounts.{SourceCounts};
 
 /// A read that failed. Why, the source alone knows.
 #[derive(Clone, Copy, Debug, PartialEq, Eq)]

@@ -3,6 +3,7 @@
 
 mod counts;
 mod error;
+mod kind;
 mod memory;
 pub mod schema;
 mod sink;
@@ -11,6 +12,7 @@ mod std_io;
 
 pub use counts::{SinkCounts, SourceCounts};
 pub use error::IpcError;
+pub use kind::MessageKind;
 pub use memory::{VecSink, VecSource};
 pub use sink::{ShortWrite, Sink, SinkFailed, write_all};
 pub use source::{Source, SourceFailed};

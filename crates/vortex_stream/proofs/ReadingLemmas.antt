@@ -4,9 +4,9 @@ use Rattle.std.proofs.KnownBytes.{Consumes-nil, Consumes-trans, Consumes-kept}
 use Rattle.std.proofs.lemmas.List.{length-append, length-take-le}
 use Rattle.std.proofs.lemmas.Bool.{lt-ltb, ne_eqb}
 use Rattle.std.specs.Io.KnownBytes.{Consumes, Keeps, IsAtEnd}
-use Rattle.vortex_ipc.specs.Counts.{raised_64, raised_128, raised_by}
-use Rattle.vortex_ipc.specs.Reading.{Reads, ReadToEnd, ReadToFault, ReadToLimit, ReadWithoutFault}
-use Rattle.vortex_ipc.specs.declared.counts.SourceCounts.{SourceCounts}
+use Rattle.vortex_stream.specs.Counts.{raised_64, raised_128, raised_by}
+use Rattle.vortex_stream.specs.Reading.{Reads, ReadToEnd, ReadToFault, ReadToLimit, ReadWithoutFault}
+use Rattle.vortex_stream.specs.declared.counts.SourceCounts.{SourceCounts}
 
 -- so many reads, each of which gave a byte at least, gave all of these
 pub record Gave (before now : SourceCounts) (rest left : Option (List ℕ)) (all : List ℕ) (reads : ℕ) : Type 0 where

@@ -1,9 +1,9 @@
 -- A source and a sink in memory, for tests: what each call may take, and which calls fail.
 use Rattle.std.specs.Prelude.{Bool, ℕ, ◌==◌, min, max, List, [], ◌∷◌, ◌++◌, length, take, drop, slice_index, Result, Ok, Err, if◌then◌else◌}
 use Rattle.std.specs.List.{list_any}
-use Rattle.vortex_ipc.specs.Counts.{raised_64, raised_128, no_source_counts, no_sink_counts, raised_by, counts_of_read, with_fault, with_flush}
-use Rattle.vortex_ipc.specs.declared.counts.SourceCounts.{SourceCounts}
-use Rattle.vortex_ipc.specs.declared.counts.SinkCounts.{SinkCounts}
+use Rattle.vortex_stream.specs.Counts.{raised_64, raised_128, no_source_counts, no_sink_counts, raised_by, counts_of_read, with_fault, with_flush}
+use Rattle.vortex_stream.specs.declared.counts.SourceCounts.{SourceCounts}
+use Rattle.vortex_stream.specs.declared.counts.SinkCounts.{SinkCounts}
 
 -- How many of n wanted bytes call k may take: at most the k-th size, which counts as 1 where it is
 -- 0. Past the list the last size holds, and an empty list sets no limit.

@@ -1,6 +1,6 @@
 use Rattle.std.proofs.Common.{◌≡◌, ◌++◌, List, ℕ, length}
 use Rattle.std.specs.Io.KnownBytes.{Appends}
-use Rattle.vortex_ipc.proofs.sink.write_all.Given as goal
+use Rattle.vortex_stream.proofs.sink.write_all.Given as goal
 
 -- what was written so far, and what is left, are all the bytes
 abbrev pub invariant-loop-rest : goal.invariant-loop-rest

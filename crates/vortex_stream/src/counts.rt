@@ -1,7 +1,7 @@
 //! Counts of what the outside did.
 
 ghost use Rattle.std.specs.Prelude.{◌≡◌};
-ghost use Rattle.vortex_ipc.specs.Counts.{counts_of_read, raised_by, with_fault, with_flush};
+ghost use Rattle.vortex_stream.specs.Counts.{counts_of_read, raised_by, with_fault, with_flush};
 
 use crate::source::SourceFailed;
 

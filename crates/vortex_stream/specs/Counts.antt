@@ -1,7 +1,7 @@
 -- Counts of what the outside did. They never fall, and stand still at the last value of their type.
 use Rattle.std.specs.Prelude.{ℕ, ◌+◌, ◌-◌, ◌^◌, ◌≤◌, ◌==◌, ◌&&◌, min, max, Result, Ok, Err, nat_lt, if◌then◌else◌}
-use Rattle.vortex_ipc.specs.declared.counts.SourceCounts.{SourceCounts}
-use Rattle.vortex_ipc.specs.declared.counts.SinkCounts.{SinkCounts}
+use Rattle.vortex_stream.specs.declared.counts.SourceCounts.{SourceCounts}
+use Rattle.vortex_stream.specs.declared.counts.SinkCounts.{SinkCounts}
 
 -- a count of 64 bits after n more
 abbrev pub raised_64 : ℕ → ℕ → ℕ

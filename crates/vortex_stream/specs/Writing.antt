@@ -1,8 +1,8 @@
 -- What one call did with a sink, by its counts and what stands on it, before and after.
 use Rattle.std.specs.Prelude.{◌≡◌, ◌⊎◌, ℕ, List, Option, take}
 use Rattle.std.specs.Io.KnownBytes.{Appends}
-use Rattle.vortex_ipc.specs.Counts.{with_fault, with_flush}
-use Rattle.vortex_ipc.specs.declared.counts.SinkCounts.{SinkCounts}
+use Rattle.vortex_stream.specs.Counts.{with_fault, with_flush}
+use Rattle.vortex_stream.specs.declared.counts.SinkCounts.{SinkCounts}
 
 -- a prefix of the bytes was appended
 abbrev pub AppendsPrefix : Option (List ℕ) → Option (List ℕ) → List ℕ → Type 0

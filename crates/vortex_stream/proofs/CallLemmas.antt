@@ -4,11 +4,11 @@ use Rattle.std.proofs.Math.Seq.{take-length}
 use Rattle.std.proofs.lemmas.List.{length-append}
 use Rattle.std.specs.Prelude.{IfSome}
 use Rattle.std.specs.Io.KnownBytes.{Appends, Consumes}
-use Rattle.vortex_ipc.specs.Counts.{raised_64, raised_128, Rose, DidNotRise, RoseBy, with_fault}
-use Rattle.vortex_ipc.specs.Reading.{Reads, ReadToEnd, ReadToFault, ReadToLimit, ReadWithoutFault}
-use Rattle.vortex_ipc.specs.Writing.{AppendsPrefix, LeavesNote}
-use Rattle.vortex_ipc.specs.declared.counts.SourceCounts.{SourceCounts}
-use Rattle.vortex_ipc.specs.declared.counts.SinkCounts.{SinkCounts}
+use Rattle.vortex_stream.specs.Counts.{raised_64, raised_128, Rose, DidNotRise, RoseBy, with_fault}
+use Rattle.vortex_stream.specs.Reading.{Reads, ReadToEnd, ReadToFault, ReadToLimit, ReadWithoutFault}
+use Rattle.vortex_stream.specs.Writing.{AppendsPrefix, LeavesNote}
+use Rattle.vortex_stream.specs.declared.counts.SourceCounts.{SourceCounts}
+use Rattle.vortex_stream.specs.declared.counts.SinkCounts.{SinkCounts}
 
 -- ---- single counts
 
