@@ -21,10 +21,3 @@ pub use error::SelectError;
 pub use laws::{one_meaning, selected_again};
 pub use program::run;
 pub use report::{RowCounts, RunFault, RunReport};
-
-#[cfg(test)]
-mod damage_tests;
-#[cfg(test)]
-mod plain_reader;
-#[cfg(test)]
-mod tests;

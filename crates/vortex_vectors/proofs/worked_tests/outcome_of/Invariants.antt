@@ -1,4 +1,4 @@
-use Rattle.vortex_select.proofs.tests.outcome_of.Given as goal
+use Rattle.vortex_vectors.proofs.worked_tests.outcome_of.Given as goal
 
 -- the blank's own ledger
 abbrev pub ghosts-ran : goal.ghosts-ran

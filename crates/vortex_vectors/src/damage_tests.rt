@@ -1,5 +1,5 @@
 use crate::plain_reader::expectation_of;
-use crate::tests::{STEADY, TYPE, outcome_of, patched, stream};
+use crate::worked_tests::{STEADY, TYPE, outcome_of, patched, stream};
 use std::alloc::{AllocError, Global};
 use std::test::Fail;
 

@@ -4,7 +4,7 @@
 //! A place in a buffer is the rest of the buffer from there on. So a step is a cut, which finds
 //! nothing where it would leave the buffer.
 
-use crate::tests::{TYPE, array_of};
+use crate::worked_tests::{TYPE, array_of};
 use std::alloc::{AllocError, Global};
 
 const PRIMITIVE: &[u8] = b"vortex.primitive";

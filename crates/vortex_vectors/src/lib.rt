@@ -1,0 +1,9 @@
+//! Tests of the top call: worked rows, and damaged streams beside a plain reader.
+#![tactic(auto)]
+
+#[cfg(test)]
+mod damage_tests;
+#[cfg(test)]
+mod plain_reader;
+#[cfg(test)]
+mod worked_tests;
