@@ -2,6 +2,7 @@ pub mod Schema
 pub mod TypeAt
 pub mod Kind
 pub mod Budget
+pub mod SmallLayouts
 pub mod Reading
 pub mod TypeTree
 pub mod Views

@@ -1,11 +1,12 @@
 //! Laws of what stands at a place.
 
-ghost use Rattle.std.specs.Prelude.{◌≡◌, ◌≤◌, ◌↔◌, ℕ, List, Some, None};
+ghost use Rattle.std.specs.Prelude.{◌≡◌, ◌≤◌, ◌↔◌, ◌∷◌, [], ℕ, List, Some, None, true};
 ghost use Rattle.vortex_flat.specs.Layout.{layout_of, whole_of};
-ghost use Rattle.vortex_terms.specs.Term.{Term};
+ghost use Rattle.vortex_terms.specs.Term.{Term, boolean, extension, null};
 ghost use Rattle.vortex_terms.specs.Types.{Bounded, IsBytes, Legal, levels, nodes, text_length};
 ghost use Rattle.vortex_schema.specs.declared.budget.Budget.{Budget};
 ghost use Rattle.vortex_schema.specs.Reading.{Found, bounded_type_at, bounded_type_in, type_at};
+ghost use Rattle.vortex_schema.specs.SmallLayouts.{extension_of_nulls, nullable_truth_value};
 ghost use Rattle.vortex_schema.specs.TypeAt.{IsTypeAt, IsTypeIn};
 ghost use Rattle.vortex_schema.specs.TypeTree.{tree_of_type};
 ghost use Rattle.vortex_schema.specs.inner.InPlace.{after_type};
@@ -54,4 +55,12 @@ pub fn laid_out_types_stand()
         → IsTypeIn b t }
     ensures found { (t : Term) (b : List ℕ) → Bounded t → layout_of (tree_of_type t) ≡ Some b
         → bounded_type_in b ≡ Some t }
+{}
+
+/// Which bytes are laid out for two small types: a flag is written as 1, and metadata that is absent has
+/// the entry 0.
+pub fn small_types_are_laid_out()
+    ensures flag { layout_of (tree_of_type (boolean true)) ≡ Some nullable_truth_value }
+    ensures no_metadata { layout_of (tree_of_type (extension (120 ∷ []) null None))
+        ≡ Some extension_of_nulls }
 {}

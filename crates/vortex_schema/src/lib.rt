@@ -17,7 +17,7 @@ pub use fields::FieldsAt;
 pub use kind::TypeKind;
 pub use laws::{
     bounded_types_are_found, found_types_stand, laid_out_types_stand, one_type_stands,
-    standing_types_are_found,
+    small_types_are_laid_out, standing_types_are_found,
 };
 pub use node::TypeNode;
 pub use place::TypeAt;

@@ -30,6 +30,8 @@ pub struct TypeAt<'a> {
 }
 
 impl<'a> TypeAt<'a> {
+    ghost use Rattle.std.specs.Option.{option_map};
+    ghost use Rattle.vortex_flat.specs.Table.{root_at};
     ghost use Rattle.vortex_schema.specs.Reading.{bounded_type_in};
     ghost use Rattle.vortex_schema.specs.Views.{node_term, term_at};
 
@@ -45,6 +47,7 @@ impl<'a> TypeAt<'a> {
     #[tactic(auto, using(crate::proofs::InPlace::no_table, crate::proofs::InPlace::walked, crate::proofs::InPlace::not_walked))]
     pub fn at(bytes: &'a [u8], place: usize) -> Result<TypeAt<'a>, Malformed>
         ensures found { IfOk result (λ at. bounded_type_at bytes.now place ≡ Some (term_at at)) }
+        ensures place { IfOk result (λ at. (at.bytes.now ≡ bytes.now) × (at.place ≡ place)) }
         ensures refused { IfErr result (λ _. bounded_type_at bytes.now place ≡ None) }
     {
         let Ok(dtype) = Table::at(bytes, place) else {
@@ -64,6 +67,8 @@ impl<'a> TypeAt<'a> {
     #[tactic(auto, using(crate::proofs::InPlace::no_root, crate::proofs::InPlace::root_is))]
     pub fn root(bytes: &'a [u8]) -> Result<TypeAt<'a>, Malformed>
         ensures found { IfOk result (λ at. bounded_type_in bytes.now ≡ Some (term_at at)) }
+        ensures place { IfOk result (λ at. (at.bytes.now ≡ bytes.now)
+            × (option_map (λ t. t.place) (root_at bytes.now) ≡ Some at.place)) }
         ensures refused { IfErr result (λ _. bounded_type_in bytes.now ≡ None) }
     {
         let Ok(dtype) = root(bytes) else {
