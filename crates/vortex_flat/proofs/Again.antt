@@ -13,7 +13,7 @@ use Rattle.vortex_flat.specs.Numbers.{number, natural, signed_8}
 use Rattle.vortex_prelude.specs.Chain.{◌>>=◌}
 use Rattle.vortex_flat.specs.Table.{TableShape, fits, table_at, field_at}
 use Rattle.vortex_flat.specs.Targets.{VectorShape, element, if_present, root_place, follow, table_place, number_field, signed_field, target_field, vector_at, bytes_at, text_at}
-use Rattle.vortex_flat.specs.Tree.{Wide, one, two, four, eight, wide, Tree, table, offsets, bytes, text, numbers, records, Slots, no_slots, absent, number_slot, signed_slot, target_slot, Trees, no_trees, tree, slot_count, tree_count}
+use Rattle.vortex_flat.specs.Tree.{Wide, one, two, four, eight, wide, Tree, table, offsets, bytes, text, numbers, records, SlotTrees, no_slots, absent, number_slot, signed_slot, target_slot, Trees, no_trees, tree, slot_count, tree_count}
 use Rattle.vortex_flat.specs.Layout.{low_first, gap, round_up, padded, count_of, vtable_size, Places, first_eight, first_places, inline_size, after, entries, head, own_size, size_of, targets_size, trees_size, slots_of, fours_of, offsets_of, vtable_of, inline_of, numbers_of, own_bytes, bytes_of, targets_bytes, trees_bytes, tables_fit, targets_fit, trees_fit, whole_of, layout_of}
 use Rattle.vortex_flat.specs.Reads.{ReadsNumbers, ReadsVector, Reads, ReadsSlots, ReadsTrees, InRange, SlotsInRange, TreesInRange, ReadsAgain}
 use Rattle.vortex_flat.proofs.TableLemmas.{guard_some, and_split, field_past, field_zero, field_here, table_here}
@@ -58,7 +58,7 @@ lane_next b place p w count size xs ys l e = record {
 }
 
 -- what is still to be read of a table from slot k on: h is the size of its vtable, q where its next target's first byte is, both from its first byte
-record Walk (b : List ℕ) (t : TableShape) (k : ℕ) (s : Slots) (p : Places) (h q base : ℕ) : Type 0 where
+record Walk (b : List ℕ) (t : TableShape) (k : ℕ) (s : SlotTrees) (p : Places) (h q base : ℕ) : Type 0 where
   stands : table_at b t.place ≡ Some t
   place : t.place ≡ base + h
   size : t.vtable_size ≡ 4 + 2 * (k + slot_count s)
@@ -75,7 +75,7 @@ record Walk (b : List ℕ) (t : TableShape) (k : ℕ) (s : Slots) (p : Places) (
 next_entry : (b : List ℕ) (v k e : ℕ) (rest : List ℕ) → At b (v + (4 + 2 * k)) (low_first 2 e ++ rest) → At b (v + (4 + 2 * suc k)) rest
 next_entry b v k e rest a = At-behind b (v + (4 + 2 * k)) (v + (4 + 2 * suc k)) (low_first 2 e) rest a (omega arith)
 
-walk_absent : (b : List ℕ) (t : TableShape) (k : ℕ) (s : Slots) (p : Places) (h q base : ℕ) → Walk b t k (absent s) p h q base → Walk b t (suc k) s p h q base
+walk_absent : (b : List ℕ) (t : TableShape) (k : ℕ) (s : SlotTrees) (p : Places) (h q base : ℕ) → Walk b t k (absent s) p h q base → Walk b t (suc k) s p h q base
 walk_absent b t k s p h q base w = record {
   stands = w.stands;
   place = w.place;
@@ -91,7 +91,7 @@ walk_absent b t k s p h q base w = record {
   targets_at = w.targets_at;
 }
 
-walk_eight : (b : List ℕ) (t : TableShape) (k n : ℕ) (s : Slots) (p : Places) (h q base : ℕ) → Walk b t k (number_slot eight n s) p h q base → Walk b t (suc k) s (after p eight) h q base
+walk_eight : (b : List ℕ) (t : TableShape) (k n : ℕ) (s : SlotTrees) (p : Places) (h q base : ℕ) → Walk b t k (number_slot eight n s) p h q base → Walk b t (suc k) s (after p eight) h q base
 walk_eight b t k n s p h q base w = record {
   stands = w.stands;
   place = w.place;
@@ -107,7 +107,7 @@ walk_eight b t k n s p h q base w = record {
   targets_at = w.targets_at;
 }
 
-walk_four : (b : List ℕ) (t : TableShape) (k n : ℕ) (s : Slots) (p : Places) (h q base : ℕ) → Walk b t k (number_slot four n s) p h q base → Walk b t (suc k) s (after p four) h q base
+walk_four : (b : List ℕ) (t : TableShape) (k n : ℕ) (s : SlotTrees) (p : Places) (h q base : ℕ) → Walk b t k (number_slot four n s) p h q base → Walk b t (suc k) s (after p four) h q base
 walk_four b t k n s p h q base w =
     let next = lane_next b t.place p.fours 4 (count_of four s) t.inline_size (low_first 4 n) (fours_of s (h + p.fours + 4) q) w.fours refl in
     record {
@@ -125,7 +125,7 @@ walk_four b t k n s p h q base w =
       fours = subst (λ (i : ℕ). Lane b t.place (p.fours + 4) 4 (count_of four s) t.inline_size (fours_of s i q)) (omega arith) next;
     }
 
-walk_two : (b : List ℕ) (t : TableShape) (k n : ℕ) (s : Slots) (p : Places) (h q base : ℕ) → Walk b t k (number_slot two n s) p h q base → Walk b t (suc k) s (after p two) h q base
+walk_two : (b : List ℕ) (t : TableShape) (k n : ℕ) (s : SlotTrees) (p : Places) (h q base : ℕ) → Walk b t k (number_slot two n s) p h q base → Walk b t (suc k) s (after p two) h q base
 walk_two b t k n s p h q base w = record {
   stands = w.stands;
   place = w.place;
@@ -141,7 +141,7 @@ walk_two b t k n s p h q base w = record {
   targets_at = w.targets_at;
 }
 
-walk_one : (b : List ℕ) (t : TableShape) (k n : ℕ) (s : Slots) (p : Places) (h q base : ℕ) → Walk b t k (number_slot one n s) p h q base → Walk b t (suc k) s (after p one) h q base
+walk_one : (b : List ℕ) (t : TableShape) (k n : ℕ) (s : SlotTrees) (p : Places) (h q base : ℕ) → Walk b t k (number_slot one n s) p h q base → Walk b t (suc k) s (after p one) h q base
 walk_one b t k n s p h q base w = record {
   stands = w.stands;
   place = w.place;
@@ -157,7 +157,7 @@ walk_one b t k n s p h q base w = record {
   targets_at = w.targets_at;
 }
 
-walk_signed : (b : List ℕ) (t : TableShape) (k : ℕ) (z : ℤ) (s : Slots) (p : Places) (h q base : ℕ) → Walk b t k (signed_slot z s) p h q base → Walk b t (suc k) s (after p one) h q base
+walk_signed : (b : List ℕ) (t : TableShape) (k : ℕ) (z : ℤ) (s : SlotTrees) (p : Places) (h q base : ℕ) → Walk b t k (signed_slot z s) p h q base → Walk b t (suc k) s (after p one) h q base
 walk_signed b t k z s p h q base w = record {
   stands = w.stands;
   place = w.place;
@@ -173,7 +173,7 @@ walk_signed b t k z s p h q base w = record {
   targets_at = w.targets_at;
 }
 
-walk_target : (b : List ℕ) (t : TableShape) (k : ℕ) (u : Tree) (s : Slots) (p : Places) (h q base : ℕ) → Walk b t k (target_slot u s) p h q base → Walk b t (suc k) s (after p four) h (q + size_of u) base
+walk_target : (b : List ℕ) (t : TableShape) (k : ℕ) (u : Tree) (s : SlotTrees) (p : Places) (h q base : ℕ) → Walk b t k (target_slot u s) p h q base → Walk b t (suc k) s (after p four) h (q + size_of u) base
 walk_target b t k u s p h q base w =
     let next = lane_next b t.place p.fours 4 (count_of four s) t.inline_size (low_first 4 (q + head u - (h + p.fours))) (fours_of s (h + p.fours + 4) (q + size_of u)) w.fours refl in
     record {
@@ -199,13 +199,13 @@ number_read b t k e n m count v rest ys stands size small entries l range =
     (found_field b t k (wide v) e m rest stands size entries l.least (lane_within b t.place e (wide v) count t.inline_size (low_first (wide v) n ++ ys) l) small)
     (number_at_place b (t.place + e) v n (lane_here b t.place e (wide v) count t.inline_size (low_first (wide v) n) ys l) range)
 
-number_found : (b : List ℕ) (t : TableShape) (k n : ℕ) (v : Wide) (s : Slots) (p : Places) (h q base : ℕ) → Walk b t k (number_slot v n s) p h q base → n < 2 ^ (8 * wide v) → number_field b t.place k (wide v) ≡ Some (Some n)
+number_found : (b : List ℕ) (t : TableShape) (k n : ℕ) (v : Wide) (s : SlotTrees) (p : Places) (h q base : ℕ) → Walk b t k (number_slot v n s) p h q base → n < 2 ^ (8 * wide v) → number_field b t.place k (wide v) ≡ Some (Some n)
 number_found b t k n one s p h q base w range = number_read b t k p.ones n (slot_count s) (count_of one s) one (entries s (after p one)) (slots_of one s) w.stands w.size w.small w.entries_at w.ones range
 number_found b t k n two s p h q base w range = number_read b t k p.twos n (slot_count s) (count_of two s) two (entries s (after p two)) (slots_of two s) w.stands w.size w.small w.entries_at w.twos range
 number_found b t k n four s p h q base w range = number_read b t k p.fours n (slot_count s) (count_of four s) four (entries s (after p four)) (fours_of s (h + p.fours + 4) q) w.stands w.size w.small w.entries_at w.fours range
 number_found b t k n eight s p h q base w range = number_read b t k p.eights n (slot_count s) (count_of eight s) eight (entries s (after p eight)) (slots_of eight s) w.stands w.size w.small w.entries_at w.eights range
 
-signed_found : (b : List ℕ) (t : TableShape) (k : ℕ) (z : ℤ) (s : Slots) (p : Places) (h q base : ℕ) → Walk b t k (signed_slot z s) p h q base → FitsSigned w8 z → signed_field b t.place k ≡ Some (Some z)
+signed_found : (b : List ℕ) (t : TableShape) (k : ℕ) (z : ℤ) (s : SlotTrees) (p : Places) (h q base : ℕ) → Walk b t k (signed_slot z s) p h q base → FitsSigned w8 z → signed_field b t.place k ≡ Some (Some z)
 signed_found b t k z s p h q base w range =
     let x : ℕ = cast_unsigned w8 z in
     let here = lane_here b t.place p.ones 1 (count_of one s) t.inline_size (x ∷ []) (slots_of one s) w.ones in
@@ -227,7 +227,7 @@ head_within (records xs) = omega arith
 followed : (b : List ℕ) (i from to goal : ℕ) → At b i (low_first 4 (to - from)) → from ≤ to → to < 2 ^ 32 → i + (to - from) ≡ goal → follow b i ≡ Some goal
 followed b i from to goal a le small e = ap (option_map (λ distance. i + distance)) (number_at_place b i four (to - from) a (omega arith)) ∙ ap Some e
 
-target_found : (b : List ℕ) (t : TableShape) (k : ℕ) (u : Tree) (s : Slots) (p : Places) (h q base : ℕ) → Walk b t k (target_slot u s) p h q base → target_field b t.place k ≡ Some (Some (base + q + head u))
+target_found : (b : List ℕ) (t : TableShape) (k : ℕ) (u : Tree) (s : SlotTrees) (p : Places) (h q base : ℕ) → Walk b t k (target_slot u s) p h q base → target_field b t.place k ≡ Some (Some (base + q + head u))
 target_found b t k u s p h q base w =
     let there : List ℕ = fours_of s (h + p.fours + 4) (q + size_of u) in
     let here = lane_here b t.place p.fours 4 (count_of four s) t.inline_size (low_first 4 (q + head u - (h + p.fours))) there w.fours in
@@ -236,7 +236,7 @@ target_found b t k u s p h q base w =
     (found_field b t k 4 p.fours (slot_count s) (entries s (after p four)) w.stands w.size w.entries_at w.fours.least inside w.small)
     (followed b (t.place + p.fours) (h + p.fours) (q + head u) (base + q + head u) here (omega (arith, w.behind)) (omega (arith, w.short, head_within u)) (omega (arith, w.place, w.behind)))
 
-walk_number : (b : List ℕ) (t : TableShape) (k n : ℕ) (v : Wide) (s : Slots) (p : Places) (h q base : ℕ) → Walk b t k (number_slot v n s) p h q base → Walk b t (suc k) s (after p v) h q base
+walk_number : (b : List ℕ) (t : TableShape) (k n : ℕ) (v : Wide) (s : SlotTrees) (p : Places) (h q base : ℕ) → Walk b t k (number_slot v n s) p h q base → Walk b t (suc k) s (after p v) h q base
 walk_number b t k n one s p h q base w = walk_one b t k n s p h q base w
 walk_number b t k n two s p h q base w = walk_two b t k n s p h q base w
 walk_number b t k n four s p h q base w = walk_four b t k n s p h q base w
@@ -253,25 +253,25 @@ back_to a h small =
 even_size : (n : ℕ) → (4 + 2 * n) % 2 ≡ 0
 even_size n = omega arith
 
-abbrev shape_of_table : ℕ → Slots → TableShape
+abbrev shape_of_table : ℕ → SlotTrees → TableShape
 shape_of_table at s = record { place = at + round_up (vtable_size s); vtable = at; vtable_size = vtable_size s; inline_size = inline_size s }
 
-laid_fits : (b : List ℕ) (at : ℕ) (s : Slots) → at + vtable_size s ≤ length b → 4 ≤ inline_size s → at + round_up (vtable_size s) + inline_size s ≤ length b → fits (shape_of_table at s) (length b) ≡ true
+laid_fits : (b : List ℕ) (at : ℕ) (s : SlotTrees) → at + vtable_size s ≤ length b → 4 ≤ inline_size s → at + round_up (vtable_size s) + inline_size s ≤ length b → fits (shape_of_table at s) (length b) ≡ true
 laid_fits b at s v least i =
     both_true (both_true (both_true (both_true (eq-eqb _ _ (even_size (slot_count s))) (le-leb _ _ (omega arith))) (le-leb _ _ v)) (le-leb _ _ least)) (le-leb _ _ i)
 
 -- the parts of a table
-record Parts (b : List ℕ) (at : ℕ) (s : Slots) : Type 0 where
+record Parts (b : List ℕ) (at : ℕ) (s : SlotTrees) : Type 0 where
   vtable_at : At b at (vtable_of s)
   inline_at : At b (at + round_up (vtable_size s)) (inline_of s)
   targets_at : At b (at + own_size (table s)) (targets_bytes s)
   vtable_small : vtable_size s ≤ 65535
   inline_small : inline_size s ≤ 65535
 
-inline_least : (s : Slots) → 4 ≤ inline_size s
+inline_least : (s : SlotTrees) → 4 ≤ inline_size s
 inline_least s = omega (arith, first_eight-least s)
 
-table_stands : (b : List ℕ) (at : ℕ) (s : Slots) → Parts b at s → table_at b (at + round_up (vtable_size s)) ≡ Some (shape_of_table at s)
+table_stands : (b : List ℕ) (at : ℕ) (s : SlotTrees) → Parts b at s → table_at b (at + round_up (vtable_size s)) ≡ Some (shape_of_table at s)
 table_stands b at s a =
     let h : ℕ = round_up (vtable_size s) in
     let whole = a.inline_at in
@@ -284,7 +284,7 @@ table_stands b at s a =
       inline_size = number_at_place b (at + 2) two (inline_size s) (At-behind b at (at + 2) (low_first 2 (vtable_size s)) (low_first 2 (inline_size s)) prefix refl) (omega (arith, a.inline_small));
     }) (sym (laid_fits b at s (omega (arith, At-within b at (vtable_of s) a.vtable_at, length-vtable_of s)) (inline_least s) (omega (arith, At-within b (at + h) (inline_of s) whole, length-inline_of s))))
 
-first_walk : (b : List ℕ) (at : ℕ) (s : Slots) → Parts b at s → size_of (table s) < 2 ^ 32
+first_walk : (b : List ℕ) (at : ℕ) (s : SlotTrees) → Parts b at s → size_of (table s) < 2 ^ 32
     → Walk b (shape_of_table at s) 0 s (first_places s) (round_up (vtable_size s)) (own_size (table s)) at
 first_walk b at s a short =
     let h : ℕ = round_up (vtable_size s) in
@@ -321,7 +321,7 @@ first_walk b at s a short =
       targets_at = a.targets_at;
     }
 
-parts_of : (b : List ℕ) (at : ℕ) (s : Slots) → vtable_size s ≤ 65535 → inline_size s ≤ 65535 → At b at (bytes_of (table s)) → Parts b at s
+parts_of : (b : List ℕ) (at : ℕ) (s : SlotTrees) → vtable_size s ≤ 65535 → inline_size s ≤ 65535 → At b at (bytes_of (table s)) → Parts b at s
 parts_of b at s v i a =
     let own = At-prefix b at (own_bytes (table s)) (targets_bytes s) a in
     record {
@@ -437,7 +437,7 @@ mutual
   reads_tree b at (records xs) range fit short a =
       at_start b at (records xs) refl (vector_read b at eight xs (At-prefix b at (low_first 4 (length xs) ++ numbers_of 8 xs) (replicate (gap (length (low_first 4 (length xs) ++ numbers_of 8 xs))) 0) a) (omega (arith, short)) range)
 
-  reads_slots : (b : List ℕ) (t : TableShape) (k : ℕ) (s : Slots) (p : Places) (h q base : ℕ) → SlotsInRange s → targets_fit s ≡ true → Walk b t k s p h q base → ReadsSlots b t.place k s
+  reads_slots : (b : List ℕ) (t : TableShape) (k : ℕ) (s : SlotTrees) (p : Places) (h q base : ℕ) → SlotsInRange s → targets_fit s ≡ true → Walk b t k s p h q base → ReadsSlots b t.place k s
   reads_slots b t k no_slots p h q base range fit w = λ j n le. field_past b t t.place j n w.stands (omega (arith, w.size, le))
   reads_slots b t k (absent s) p h q base range fit w = (λ n. absent_field b t k n (slot_count s) (entries s p) w.stands w.size w.entries_at, reads_slots b t (suc k) s p h q base range fit (walk_absent b t k s p h q base w))
   reads_slots b t k (number_slot v n s) p h q base range fit w = (number_found b t k n v s p h q base w range.0, reads_slots b t (suc k) s (after p v) h q base range.1 fit (walk_number b t k n v s p h q base w))
@@ -456,11 +456,11 @@ mutual
         reads_trees b v (suc i) ts (q + size_of t) at range.1 fits.1 (row_next b v i t ts q at r),
       )
 
-root_found : (b : List ℕ) (s : Slots) (p : ℕ) → number b 0 4 ≡ Some p → table_place b p ≡ Some p → root_place b ≡ Some p
+root_found : (b : List ℕ) (s : SlotTrees) (p : ℕ) → number b 0 4 ≡ Some p → table_place b p ≡ Some p → root_place b ≡ Some p
 root_found b s p e f = ap (λ (o : Option ℕ). option_map (λ (x : TableShape). x.place) (o >>= table_at b)) e ∙ f
 
 -- What is laid out is read again: the buffer begins with the place of the tree.
-pub read_again_lem : (s : Slots) (b : List ℕ) → InRange (table s) → layout_of (table s) ≡ Some b → ReadsAgain b (table s)
+pub read_again_lem : (s : SlotTrees) (b : List ℕ) → InRange (table s) → layout_of (table s) ≡ Some b → ReadsAgain b (table s)
 unfolding layout_of
 read_again_lem s b range e =
     let t : Tree = table s in

@@ -3,7 +3,7 @@ use Rattle.std.proofs.Common.{◌≡◌, ℕ, zero, suc, ◌+◌, ◌^◌, ◌�
 use Rattle.vortex_flat.specs.declared.item.Item.{Item}
 use Rattle.vortex_flat.specs.declared.item.Slot.{Slot}
 use Rattle.vortex_flat.specs.declared.item.Slot.TheVariants as slots
-use Rattle.vortex_flat.specs.Tree.{Slots, no_slots, Trees, no_trees}
+use Rattle.vortex_flat.specs.Tree.{SlotTrees, no_slots, Trees, no_trees}
 use Rattle.vortex_flat.specs.inner.TreeCode.{tree_weight, slots_weight, trees_weight}
 use Rattle.vortex_flat.specs.Item.{slots_from, trees_from, tree_of}
 use Rattle.vortex_flat.specs.Layout.{bytes_of, size_of, tables_fit, targets_bytes, targets_fit, targets_size, trees_bytes, trees_fit, trees_size}
@@ -25,7 +25,7 @@ first_lighter (Some (slots.U16 n)) xs = omega arith
 first_lighter (Some (slots.U32 n)) xs = omega arith
 first_lighter (Some (slots.U64 n)) xs = omega arith
 first_lighter (Some (slots.Item t)) xs = omega (arith, some_weight (slots_from xs)) where
-  some_weight : (s : Slots) → 0 < slots_weight s
+  some_weight : (s : SlotTrees) → 0 < slots_weight s
   some_weight no_slots = omega arith
   some_weight _ = omega arith
 
@@ -51,7 +51,7 @@ item_lighter (y ∷ xs) (suc i) x lt here = omega (arith, item_lighter xs i x (o
 
 -- ---- slots
 
-pub record TargetsLeft (out start : List ℕ) (rest whole : Slots) : Type 0 where
+pub record TargetsLeft (out start : List ℕ) (rest whole : SlotTrees) : Type 0 where
   pub short : targets_size rest < 2 ^ 32
   pub fits : targets_fit rest ≡ true
   pub laid : out ++ targets_bytes rest ≡ start ++ targets_bytes whole

@@ -1,4 +1,4 @@
--- Slots and items one after the other, as loops go over them.
+-- SlotTrees and items one after the other, as loops go over them.
 use Rattle.std.proofs.Common.{◌≡◌, ℕ, zero, suc, ◌+◌, ◌*◌, ◌≤◌, ◌<◌, min, Bool, true, false, List, [], ◌∷◌, length, get_or, drop, Option, Some, None, refl, sym, ap, subst, ◌∙◌, arith, add-one}
 use Rattle.std.proofs.lemmas.Bool.{leb-true, lt-leb}
 use Rattle.vortex_flat.proofs.TableLemmas.{and_split}
@@ -8,7 +8,7 @@ use Rattle.vortex_flat.specs.declared.extent.Extent.{Extent}
 use Rattle.vortex_flat.specs.declared.item.Item.{Item}
 use Rattle.vortex_flat.specs.declared.item.Slot.{Slot}
 use Rattle.vortex_flat.specs.declared.item.Slot.TheVariants as slots
-use Rattle.vortex_flat.specs.Tree.{one, two, four, eight, table, offsets, Slots, no_slots, Trees, no_trees, slot_count, tree_count}
+use Rattle.vortex_flat.specs.Tree.{one, two, four, eight, table, offsets, SlotTrees, no_slots, Trees, no_trees, slot_count, tree_count}
 use Rattle.vortex_flat.specs.Item.{slots_from, trees_from, tree_of}
 use Rattle.vortex_flat.specs.Layout.{count_of, inline_size, vtable_size, round_up, head, own_size, size_of, targets_size, trees_size, tables_fit, targets_fit, trees_fit}
 use Rattle.vortex_flat.specs.inner.Extent.{Counted, Measures, MeasuresTargets, MeasuresTrees}
@@ -25,7 +25,7 @@ drop_all [] = refl
 drop_all (x ∷ xs) = drop_all xs
 
 -- what was counted so far, and what is still to be counted, are the whole
-pub record Counting (c : WidthCounts) (rest whole : Slots) (i : ℕ) : Type 0 where
+pub record Counting (c : WidthCounts) (rest whole : SlotTrees) (i : ℕ) : Type 0 where
   pub eights : c.eights + count_of eight rest ≡ count_of eight whole
   pub fours : c.fours + count_of four rest ≡ count_of four whole
   pub twos : c.twos + count_of two rest ≡ count_of two whole
@@ -35,7 +35,7 @@ pub record Counting (c : WidthCounts) (rest whole : Slots) (i : ℕ) : Type 0 wh
   pub twos_below : c.twos ≤ i
   pub ones_below : c.ones ≤ i
 
-counting_step : (c : WidthCounts) (x : Option Slot) (xs : List (Option Slot)) (whole : Slots) (i : ℕ) → Counting c (slots_from (x ∷ xs)) whole i → Counting (counts_after c x) (slots_from xs) whole (i + 1)
+counting_step : (c : WidthCounts) (x : Option Slot) (xs : List (Option Slot)) (whole : SlotTrees) (i : ℕ) → Counting c (slots_from (x ∷ xs)) whole i → Counting (counts_after c x) (slots_from xs) whole (i + 1)
 counting_step c None xs whole i h = grind arith
 counting_step c (Some (slots.U8 n)) xs whole i h = grind arith
 counting_step c (Some (slots.I8 z)) xs whole i h = grind arith
@@ -55,7 +55,7 @@ counting_all c xs h =
     record { eights = omega (arith, end.eights); fours = omega (arith, end.fours); twos = omega (arith, end.twos); ones = omega (arith, end.ones) }
 
 -- the same of what hangs on slots
-pub record Summing (e : Extent) (rest whole : Slots) : Type 0 where
+pub record Summing (e : Extent) (rest whole : SlotTrees) : Type 0 where
   pub size : min (e.size + targets_size rest) 4294967296 ≡ min (targets_size whole) 4294967296
   pub fits : (e.fits && targets_fit rest) ≡ targets_fit whole
   pub small : e.size ≤ 4294967296
@@ -68,7 +68,7 @@ and_true : (a : Bool) → (a && true) ≡ a
 and_true true = refl
 and_true false = refl
 
-summing_step : (e : Extent) (x : Option Slot) (xs : List (Option Slot)) (whole : Slots) → Summing e (slots_from (x ∷ xs)) whole → Summing (extent_after e x) (slots_from xs) whole
+summing_step : (e : Extent) (x : Option Slot) (xs : List (Option Slot)) (whole : SlotTrees) → Summing e (slots_from (x ∷ xs)) whole → Summing (extent_after e x) (slots_from xs) whole
 summing_step e None xs whole h = record { size = h.size; fits = h.fits; small = h.small }
 summing_step e (Some (slots.U8 n)) xs whole h = record { size = h.size; fits = h.fits; small = h.small }
 summing_step e (Some (slots.I8 z)) xs whole h = record { size = h.size; fits = h.fits; small = h.small }
@@ -126,19 +126,19 @@ pub tree_count-trees_from : (xs : List Item) → tree_count (trees_from xs) ≡ 
 tree_count-trees_from [] = refl
 tree_count-trees_from (x ∷ xs) = ap suc (tree_count-trees_from xs)
 
-pub inline_size-counted : (c : WidthCounts) (s : Slots) → Counted c s → inline_of_counts c ≡ inline_size s
+pub inline_size-counted : (c : WidthCounts) (s : SlotTrees) → Counted c s → inline_of_counts c ≡ inline_size s
 inline_size-counted c s h =
     ap (λ (n : ℕ). (if n == 0 then 4 else 8) + 8 * n + 4 * c.fours + 2 * c.twos + c.ones) h.eights ∙ omega (arith, h.fours, h.twos, h.ones)
 
 -- ---- a whole table, and a whole vector of offsets
 
-pub head_small : (xs : List (Option Slot)) (s : Slots) → slots_from xs ≡ s → tables_fit (table s) ≡ true → 4 + 2 * length xs ≤ 65535
+pub head_small : (xs : List (Option Slot)) (s : SlotTrees) → slots_from xs ≡ s → tables_fit (table s) ≡ true → 4 + 2 * length xs ≤ 65535
 head_small xs s e fits =
     let both = and_split (nat_le (vtable_size s) 65535 && nat_le (inline_size s) 65535) (targets_fit s) fits in
     let small : vtable_size s ≤ 65535 = leb-true _ _ (and_split (nat_le (vtable_size s) 65535) (nat_le (inline_size s) 65535) both.0).0 in
     omega (arith, small, ap slot_count e, slot_count-slots_from xs)
 
-pub head_is : (xs : List (Option Slot)) (s : Slots) → slots_from xs ≡ s → round_up (4 + 2 * length xs) ≡ head (table s)
+pub head_is : (xs : List (Option Slot)) (s : SlotTrees) → slots_from xs ≡ s → round_up (4 + 2 * length xs) ≡ head (table s)
 head_is xs s e = ap (λ (n : ℕ). round_up (4 + 2 * n)) (sym (slot_count-slots_from xs) ∙ ap slot_count e)
 
 pub items_measured : (e own f : Extent) (xs : List Item) (n : ℕ) → n ≡ length xs → own.size ≡ min (round_up (4 + 4 * n)) 4294967296 → own.fits ≡ true → MeasuresTrees f (trees_from xs) → e.size ≡ min (own.size + f.size) 4294967296 → e.fits ≡ (own.fits && f.fits) → Measures e (offsets (trees_from xs))
@@ -152,7 +152,7 @@ items_measured e own f xs n len size fits trees both_size both_fits =
 pub table_measured : (e own f : Extent) (xs : List (Option Slot)) (c : WidthCounts) → Counted c (slots_from xs) → own.size ≡ min (round_up (4 + 2 * length xs) + round_up (inline_of_counts c)) 4294967296 → own.fits ≡ (nat_le (4 + 2 * length xs) 65535 && nat_le (inline_of_counts c) 65535)
     → MeasuresTargets f (slots_from xs) → e.size ≡ min (own.size + f.size) 4294967296 → e.fits ≡ (own.fits && f.fits) → Measures e (table (slots_from xs))
 table_measured e own f xs c counted size fits targets both_size both_fits =
-    let s : Slots = slots_from xs in
+    let s : SlotTrees = slots_from xs in
     let many : length xs ≡ slot_count s = sym (slot_count-slots_from xs) in
     let inline = inline_size-counted c s counted in
     let blocks : own.size ≡ min (own_size (table s)) 4294967296 =
@@ -167,7 +167,7 @@ table_measured e own f xs c counted size fits targets both_size both_fits =
 pub large_measured : (e : Extent) (xs : List (Option Slot)) → 4294967296 ≤ length xs → e.size ≡ 4294967296 → e.fits ≡ false → Measures e (table (slots_from xs))
 large_measured e xs large size fits =
     let many = slot_count-slots_from xs in
-    let s : Slots = slots_from xs in
+    let s : SlotTrees = slots_from xs in
     let off : nat_le (vtable_size s) 65535 ≡ false = lt-leb (vtable_size s) 65535 (omega arith) in
     record {
       size = omega arith;

@@ -4,7 +4,7 @@ use Rattle.std.specs.Prelude.{replicate, ◌==◌, if◌then◌else◌}
 use Rattle.std.specs.Int.{bytes_low_first, w8, cast_unsigned}
 use Rattle.std.proofs.lemmas.List.{length-replicate}
 use Rattle.std.proofs.lemmas.Bool.{eqb-true}
-use Rattle.vortex_flat.specs.Tree.{Wide, one, two, four, eight, wide, Tree, table, offsets, bytes, text, numbers, records, Slots, no_slots, absent, number_slot, signed_slot, target_slot, Trees, no_trees, tree, slot_count, tree_count}
+use Rattle.vortex_flat.specs.Tree.{Wide, one, two, four, eight, wide, Tree, table, offsets, bytes, text, numbers, records, SlotTrees, no_slots, absent, number_slot, signed_slot, target_slot, Trees, no_trees, tree, slot_count, tree_count}
 use Rattle.vortex_flat.specs.Layout.{low_first, gap, round_up, padded, is_wide, count_of, vtable_size, Places, first_eight, first_places, inline_size, after, entries, head, own_size, size_of, targets_size, trees_size, slots_of, fours_of, offsets_of, vtable_of, inline_of, numbers_of, own_bytes, bytes_of, targets_bytes, trees_bytes}
 
 length-bytes_low_first : (i k n : ℕ) → length (bytes_low_first i k n) ≡ k
@@ -17,7 +17,7 @@ length-low k n = length-bytes_low_first 0 k n
 pub length-padded : (xs : List ℕ) → length (padded xs) ≡ round_up (length xs)
 length-padded xs = omega (arith, length-append xs (replicate (gap (length xs)) 0), length-replicate {A = ℕ} (gap (length xs)) 0)
 
-pub length-entries : (s : Slots) (p : Places) → length (entries s p) ≡ 2 * slot_count s
+pub length-entries : (s : SlotTrees) (p : Places) → length (entries s p) ≡ 2 * slot_count s
 length-entries no_slots p = refl
 length-entries (absent s) p = omega (arith, length-entries s p)
 length-entries (number_slot w n s) p = omega (arith, length-entries s (after p w))
@@ -28,7 +28,7 @@ one_more : (c : Bool) (w m : ℕ) (xs ys : List ℕ) → (c ≡ true → length 
 one_more true w m xs ys h e = let h' = h refl in omega (arith, length-append xs ys, h')
 one_more false w m xs ys h e = e
 
-pub length-slots_of : (w : Wide) (s : Slots) → is_wide four w ≡ false → length (slots_of w s) ≡ wide w * count_of w s
+pub length-slots_of : (w : Wide) (s : SlotTrees) → is_wide four w ≡ false → length (slots_of w s) ≡ wide w * count_of w s
 length-slots_of w no_slots h = omega arith
 length-slots_of w (absent s) h = length-slots_of w s h
 length-slots_of w (number_slot v n s) h =
@@ -38,7 +38,7 @@ length-slots_of w (signed_slot z s) h =
 length-slots_of w (target_slot t s) h =
     length-slots_of w s h ∙ ap (λ (c : Bool). wide w * (if c then suc (count_of w s) else count_of w s)) (sym h)
 
-pub length-fours_of : (s : Slots) (p q : ℕ) → length (fours_of s p q) ≡ 4 * count_of four s
+pub length-fours_of : (s : SlotTrees) (p q : ℕ) → length (fours_of s p q) ≡ 4 * count_of four s
 length-fours_of no_slots p q = refl
 length-fours_of (absent s) p q = length-fours_of s p q
 length-fours_of (number_slot one n s) p q = length-fours_of s p q
@@ -56,17 +56,17 @@ pub length-numbers_of : (w : ℕ) (ns : List ℕ) → length (numbers_of w ns) �
 length-numbers_of w [] = omega arith
 length-numbers_of w (n ∷ ns) = omega (arith, length-numbers_of w ns, length-append (low_first w n) (numbers_of w ns), length-low w n)
 
-pub first_eight-least : (s : Slots) → 4 ≤ first_eight s
+pub first_eight-least : (s : SlotTrees) → 4 ≤ first_eight s
 first_eight-least s = least (count_of eight s == 0) where
   least : (c : Bool) → 4 ≤ (if c then 4 else 8)
   least true = omega arith
   least false = omega arith
 
-pub length-vtable_of : (s : Slots) → length (vtable_of s) ≡ vtable_size s
+pub length-vtable_of : (s : SlotTrees) → length (vtable_of s) ≡ vtable_size s
 length-vtable_of s =
     omega (arith, length-entries s (first_places s))
 
-pub length-inline_of : (s : Slots) → length (inline_of s) ≡ inline_size s
+pub length-inline_of : (s : SlotTrees) → length (inline_of s) ≡ inline_size s
 length-inline_of s =
     let a : List ℕ = low_first 4 (head (table s)) in
     let z : List ℕ = replicate (first_eight s - 4) 0 in
@@ -112,7 +112,7 @@ mutual
   length-bytes_of (numbers xs) = length-own_bytes (numbers xs)
   length-bytes_of (records xs) = length-own_bytes (records xs)
 
-  pub length-targets_bytes : (s : Slots) → length (targets_bytes s) ≡ targets_size s
+  pub length-targets_bytes : (s : SlotTrees) → length (targets_bytes s) ≡ targets_size s
   length-targets_bytes no_slots = refl
   length-targets_bytes (absent s) = length-targets_bytes s
   length-targets_bytes (number_slot w n s) = length-targets_bytes s

@@ -5,7 +5,7 @@ use Rattle.std.specs.Prelude.{replicate, if◌then◌else◌}
 use Rattle.std.specs.Int.{w8, cast_unsigned}
 use Rattle.vortex_flat.specs.declared.item.Slot.{Slot}
 use Rattle.vortex_flat.specs.declared.item.Slot.TheVariants as slots
-use Rattle.vortex_flat.specs.Tree.{Wide, one, two, four, eight, table, Slots}
+use Rattle.vortex_flat.specs.Tree.{Wide, one, two, four, eight, table, SlotTrees}
 use Rattle.vortex_flat.specs.Item.{slots_from, tree_of}
 use Rattle.vortex_flat.specs.Layout.{low_first, is_wide, count_of, gap, round_up, padded, Places, first_eight, first_places, entries, vtable_size, inline_size, vtable_of, inline_of, head, own_size, slots_of, fours_of, targets_size, targets_fit, tables_fit}
 use Rattle.vortex_flat.specs.inner.SlotBytes.{number_bytes, inline_of_counts, places_of_counts, entry_of, places_after, HaveRoom, four_bytes, four_place, target_size, target_fits}
@@ -82,7 +82,7 @@ room-more xs i x p q n lt here h same =
 -- ---- numbers of four bytes and offsets
 
 -- the slots that are left go before the targets, and all of these are within the reach of an offset
-pub record FoursLeft (s : Slots) (place target : ℕ) : Type 0 where
+pub record FoursLeft (s : SlotTrees) (place target : ℕ) : Type 0 where
   pub order : place + 4 * count_of four s ≤ target
   pub short : target + targets_size s < 2 ^ 32
   pub fits : targets_fit s ≡ true
@@ -144,7 +144,7 @@ join o p q xs ys e f = f ∙ ap (λ (t : List ℕ). t ++ ys) e ∙ append_assoc 
 pub join_padded : (o p q xs : List ℕ) (n : ℕ) → p ≡ o ++ xs → q ≡ p ++ replicate (gap n) 0 → n ≡ length xs → q ≡ o ++ padded xs
 join_padded o p q xs n e f same = join o p q xs (replicate (gap n) 0) e f ∙ ap (λ (k : ℕ). o ++ (xs ++ replicate (gap k) 0)) same
 
-counted_places : (c : WidthCounts) (s : Slots) → Counted c s → places_of_counts c ≡ first_places s
+counted_places : (c : WidthCounts) (s : SlotTrees) → Counted c s → places_of_counts c ≡ first_places s
 counted_places c s h =
     ap (λ (e : ℕ). places_of_counts (record { eights = e; fours = c.fours; twos = c.twos; ones = c.ones })) h.eights
     ∙ ap (λ (f : ℕ). places_of_counts (record { eights = count_of eight s; fours = f; twos = c.twos; ones = c.ones })) h.fours
@@ -153,7 +153,7 @@ counted_places c s h =
 pub vtable_laid : (o o1 o2 o3 o4 : List ℕ) (xs : List (Option Slot)) (c : WidthCounts) (n i : ℕ) (p : Places) → Counted c (slots_from xs) → n ≡ length xs → i ≡ inline_of_counts c → p ≡ places_of_counts c
     → o1 ≡ o ++ low_first 2 (4 + 2 * n) → o2 ≡ o1 ++ low_first 2 i → o3 ≡ o2 ++ entries (slots_from xs) p → o4 ≡ o3 ++ replicate (gap (4 + 2 * n)) 0 → o4 ≡ o ++ padded (vtable_of (slots_from xs))
 vtable_laid o o1 o2 o3 o4 xs c n i p counted len inline places e1 e2 e3 e4 =
-    let s : Slots = slots_from xs in
+    let s : SlotTrees = slots_from xs in
     let size : 4 + 2 * n ≡ vtable_size s = ap (λ (k : ℕ). 4 + 2 * k) (len ∙ sym (slot_count-slots_from xs)) in
     let f1 : o1 ≡ o ++ low_first 2 (vtable_size s) = e1 ∙ ap (λ (k : ℕ). o ++ low_first 2 k) size in
     let f2 : o2 ≡ o1 ++ low_first 2 (inline_size s) = e2 ∙ ap (λ (k : ℕ). o1 ++ low_first 2 k) (inline ∙ inline_size-counted c s counted) in
@@ -164,7 +164,7 @@ pub inline_laid : (o o1 o2 o3 o4 o5 o6 o7 : List ℕ) (xs : List (Option Slot)) 
     → o1 ≡ o ++ low_first 4 h → o2 ≡ o1 ++ replicate (p.eights - 4) 0 → o3 ≡ o2 ++ slots_of eight (slots_from xs) → o4 ≡ o3 ++ fours_of (slots_from xs) (h + p.fours) (h + round_up i) → o5 ≡ o4 ++ slots_of two (slots_from xs) → o6 ≡ o5 ++ slots_of one (slots_from xs)
     → o7 ≡ o6 ++ replicate (gap i) 0 → o7 ≡ o ++ padded (inline_of (slots_from xs))
 inline_laid o o1 o2 o3 o4 o5 o6 o7 xs c h i p counted head_same inline places e1 e2 e3 e4 e5 e6 e7 =
-    let s : Slots = slots_from xs in
+    let s : SlotTrees = slots_from xs in
     let head_is : h ≡ head (table s) = head_same ∙ ap (λ (k : ℕ). round_up (4 + 2 * k)) (sym (slot_count-slots_from xs)) in
     let size : i ≡ inline_size s = inline ∙ inline_size-counted c s counted in
     let first : p ≡ first_places s = places ∙ counted_places c s counted in
@@ -187,7 +187,7 @@ vtable_small xs h = omega (arith, h, slot_count-slots_from xs)
 
 pub behind_is : (xs : List (Option Slot)) (c : WidthCounts) (h r i : ℕ) → Counted c (slots_from xs) → h ≡ round_up (4 + 2 * length xs) → i ≡ inline_of_counts c → r ≡ round_up i → h + r ≡ own_size (table (slots_from xs))
 behind_is xs c h r i counted head_same inline up =
-    let s : Slots = slots_from xs in
+    let s : SlotTrees = slots_from xs in
     let head_is : h ≡ round_up (vtable_size s) = head_same ∙ ap (λ (k : ℕ). round_up (4 + 2 * k)) (sym (slot_count-slots_from xs)) in
     let last : r ≡ round_up (inline_size s) = up ∙ ap round_up (inline ∙ inline_size-counted c s counted) in
     omega (arith, head_is, last)

@@ -4,7 +4,7 @@ use Rattle.vortex_flat.specs.declared.item.Item.{Item}
 use Rattle.vortex_flat.specs.declared.item.Item.TheVariants as items
 use Rattle.vortex_flat.specs.declared.item.Slot.{Slot}
 use Rattle.vortex_flat.specs.declared.item.Slot.TheVariants as slots
-use Rattle.vortex_flat.specs.Tree.{one, two, four, eight, Tree, table, offsets, bytes, text, numbers, records, Slots, no_slots, absent, number_slot, signed_slot, target_slot, Trees, no_trees, tree}
+use Rattle.vortex_flat.specs.Tree.{one, two, four, eight, Tree, table, offsets, bytes, text, numbers, records, SlotTrees, no_slots, absent, number_slot, signed_slot, target_slot, Trees, no_trees, tree}
 
 -- the tree that an item stands for
 abbrev pub tree_of : Item → Tree
@@ -16,7 +16,7 @@ tree_of (items.Numbers v) = numbers v.items
 tree_of (items.Records v) = records v.items
 
 -- the slots with one more before them
-abbrev pub with_slot : Slot → Slots → Slots
+abbrev pub with_slot : Slot → SlotTrees → SlotTrees
 with_slot (slots.U8 n) s = number_slot one n s
 with_slot (slots.I8 z) s = signed_slot z s
 with_slot (slots.U16 n) s = number_slot two n s
@@ -25,7 +25,7 @@ with_slot (slots.U64 n) s = number_slot eight n s
 with_slot (slots.Item t) s = target_slot (tree_of t) s
 
 -- the slots that the fields of a table stand for
-abbrev pub slots_from : List (Option Slot) → Slots
+abbrev pub slots_from : List (Option Slot) → SlotTrees
 slots_from [] = no_slots
 slots_from (None ∷ xs) = absent (slots_from xs)
 slots_from (Some x ∷ xs) = with_slot x (slots_from xs)

@@ -2,7 +2,7 @@
 use Rattle.std.specs.Prelude.{ℕ, suc, ◌+◌, ◌-◌, ◌*◌, ◌%◌, ◌==◌, ◌&&◌, Bool, true, List, [], ◌∷◌, ◌++◌, length, replicate, Option, Some, None, nat_le, if◌then◌else◌}
 use Rattle.std.specs.Int.{w8, bytes_low_first, cast_unsigned}
 use Rattle.vortex_flat.specs.declared.extent.TheConstants.{LARGEST_PART}
-use Rattle.vortex_flat.specs.Tree.{Wide, one, two, four, eight, wide, Tree, table, offsets, bytes, text, numbers, records, Slots, no_slots, absent, number_slot, signed_slot, target_slot, Trees, no_trees, tree, slot_count, tree_count}
+use Rattle.vortex_flat.specs.Tree.{Wide, one, two, four, eight, wide, Tree, table, offsets, bytes, text, numbers, records, SlotTrees, no_slots, absent, number_slot, signed_slot, target_slot, Trees, no_trees, tree, slot_count, tree_count}
 
 -- the w bytes of n, the lowest first
 abbrev pub low_first : ℕ → ℕ → List ℕ
@@ -25,7 +25,7 @@ abbrev pub is_wide : Wide → Wide → Bool
 is_wide v w = wide v == wide w
 
 -- how many slots have a width; an offset has four bytes
-abbrev pub count_of : Wide → Slots → ℕ
+abbrev pub count_of : Wide → SlotTrees → ℕ
 count_of w no_slots = 0
 count_of w (absent s) = count_of w s
 count_of w (number_slot v n s) = if is_wide v w then suc (count_of w s) else count_of w s
@@ -33,7 +33,7 @@ count_of w (signed_slot z s) = if is_wide one w then suc (count_of w s) else cou
 count_of w (target_slot t s) = if is_wide four w then suc (count_of w s) else count_of w s
 
 -- the size of the vtable
-abbrev pub vtable_size : Slots → ℕ
+abbrev pub vtable_size : SlotTrees → ℕ
 vtable_size s = 4 + 2 * slot_count s
 
 -- Where in a table the next slot of each width goes: the widest come first, from place 4, or 8
@@ -45,11 +45,11 @@ pub record Places : Type 0 where
   pub ones : ℕ
 
 -- where in a table the first slot goes
-abbrev pub first_eight : Slots → ℕ
+abbrev pub first_eight : SlotTrees → ℕ
 first_eight s = if count_of eight s == 0 then 4 else 8
 
 -- where in a table the first slot of each width goes
-abbrev pub first_places : Slots → Places
+abbrev pub first_places : SlotTrees → Places
 first_places s = record {
   eights = first_eight s;
   fours = first_eight s + 8 * count_of eight s;
@@ -58,7 +58,7 @@ first_places s = record {
 }
 
 -- the size of the inline part
-abbrev pub inline_size : Slots → ℕ
+abbrev pub inline_size : SlotTrees → ℕ
 inline_size s =
     first_eight s + 8 * count_of eight s + 4 * count_of four s + 2 * count_of two s + count_of one s
 
@@ -77,7 +77,7 @@ after p four = record p { fours = p.fours + 4 }
 after p eight = record p { eights = p.eights + 8 }
 
 -- the entries of the vtable, where these are the places of the next slots
-abbrev pub entries : Slots → Places → List ℕ
+abbrev pub entries : SlotTrees → Places → List ℕ
 entries no_slots p = []
 entries (absent s) p = low_first 2 0 ++ entries s p
 entries (number_slot w n s) p = low_first 2 (place_of p w) ++ entries s (after p w)
@@ -113,7 +113,7 @@ abbrev mutual
   size_of (records xs) = own_size (records xs)
 
   -- the size of all that hangs on slots
-  pub targets_size : Slots → ℕ
+  pub targets_size : SlotTrees → ℕ
   targets_size no_slots = 0
   targets_size (absent s) = targets_size s
   targets_size (number_slot w n s) = targets_size s
@@ -126,7 +126,7 @@ abbrev mutual
   trees_size (tree t ts) = size_of t + trees_size ts
 
 -- the bytes of the numbers of a width, in the order of their slots
-abbrev pub slots_of : Wide → Slots → List ℕ
+abbrev pub slots_of : Wide → SlotTrees → List ℕ
 slots_of w no_slots = []
 slots_of w (absent s) = slots_of w s
 slots_of w (number_slot v n s) =
@@ -137,7 +137,7 @@ slots_of w (target_slot t s) = slots_of w s
 
 -- The numbers of four bytes and the offsets. The first stands at p, and the first target's first
 -- byte will be at q.
-abbrev pub fours_of : Slots → ℕ → ℕ → List ℕ
+abbrev pub fours_of : SlotTrees → ℕ → ℕ → List ℕ
 fours_of no_slots p q = []
 fours_of (absent s) p q = fours_of s p q
 fours_of (number_slot v n s) p q =
@@ -151,12 +151,12 @@ offsets_of no_trees p q = []
 offsets_of (tree t ts) p q = low_first 4 (q + head t - p) ++ offsets_of ts (p + 4) (q + size_of t)
 
 -- the vtable: its own size, that of the inline part, and the entries
-abbrev pub vtable_of : Slots → List ℕ
+abbrev pub vtable_of : SlotTrees → List ℕ
 vtable_of s =
     low_first 2 (vtable_size s) ++ low_first 2 (inline_size s) ++ entries s (first_places s)
 
 -- the inline part: the distance from the vtable, and then the slots, the widest first
-abbrev pub inline_of : Slots → List ℕ
+abbrev pub inline_of : SlotTrees → List ℕ
 inline_of s =
     low_first 4 (head (table s)) ++ replicate (first_eight s - 4) 0 ++ slots_of eight s
     ++ fours_of s (head (table s) + (first_places s).fours) (own_size (table s))
@@ -188,7 +188,7 @@ abbrev mutual
   bytes_of (records xs) = own_bytes (records xs)
 
   -- the bytes of all that hangs on slots
-  pub targets_bytes : Slots → List ℕ
+  pub targets_bytes : SlotTrees → List ℕ
   targets_bytes no_slots = []
   targets_bytes (absent s) = targets_bytes s
   targets_bytes (number_slot w n s) = targets_bytes s
@@ -212,7 +212,7 @@ abbrev mutual
   tables_fit (records xs) = true
 
   -- whether each table that hangs on slots keeps to these sizes
-  pub targets_fit : Slots → Bool
+  pub targets_fit : SlotTrees → Bool
   targets_fit no_slots = true
   targets_fit (absent s) = targets_fit s
   targets_fit (number_slot w n s) = targets_fit s

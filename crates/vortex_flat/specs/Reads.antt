@@ -6,7 +6,7 @@ use Rattle.std.specs.Str.{IsUtf8}
 use Rattle.vortex_flat.specs.Numbers.{number}
 use Rattle.vortex_flat.specs.Table.{field_at}
 use Rattle.vortex_flat.specs.Targets.{VectorShape, root_place, element, follow, table_place, number_field, signed_field, target_field, vector_at, bytes_at, text_at}
-use Rattle.vortex_flat.specs.Tree.{wide, Tree, table, offsets, bytes, text, numbers, records, Slots, no_slots, absent, number_slot, signed_slot, target_slot, Trees, no_trees, tree, tree_count}
+use Rattle.vortex_flat.specs.Tree.{wide, Tree, table, offsets, bytes, text, numbers, records, SlotTrees, no_slots, absent, number_slot, signed_slot, target_slot, Trees, no_trees, tree, tree_count}
 
 -- the numbers from element i on
 abbrev pub ReadsNumbers : List ℕ → VectorShape → ℕ → List ℕ → Type 0
@@ -32,7 +32,7 @@ abbrev mutual
   Reads b p (records ns) = ReadsVector b p 8 ns
 
   -- the slots are the fields from number k on, and behind them there is none
-  pub ReadsSlots : List ℕ → ℕ → ℕ → Slots → Type 0
+  pub ReadsSlots : List ℕ → ℕ → ℕ → SlotTrees → Type 0
   ReadsSlots b p k no_slots = (j w : ℕ) → k ≤ j → field_at b p j w ≡ Some None
   ReadsSlots b p k (absent s) = ((w : ℕ) → field_at b p k w ≡ Some None) × ReadsSlots b p (suc k) s
   ReadsSlots b p k (number_slot w n s) =
@@ -59,7 +59,7 @@ abbrev mutual
   InRange (records ns) = AllByRecursion (λ n. n < 2 ^ 64) ns
 
   -- the numbers of slots, and of all that hangs on them, are such as their widths hold
-  pub SlotsInRange : Slots → Type 0
+  pub SlotsInRange : SlotTrees → Type 0
   SlotsInRange no_slots = Unit {0}
   SlotsInRange (absent s) = SlotsInRange s
   SlotsInRange (number_slot w n s) = (n < 2 ^ (8 * wide w)) × SlotsInRange s

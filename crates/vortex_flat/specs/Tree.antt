@@ -18,7 +18,7 @@ wide eight = 8
 mutual
   -- a table, a vector of offsets, bytes, a text, or a vector of numbers of four bytes or of eight
   pub data Tree : Type 0 where
-    table : Slots → Tree
+    table : SlotTrees → Tree
     offsets : Trees → Tree
     bytes : List ℕ → Tree
     text : List ℕ → Tree
@@ -26,12 +26,12 @@ mutual
     records : List ℕ → Tree
 
   -- a slot is empty, a number, a signed byte, or an offset to another tree
-  pub data Slots : Type 0 where
-    no_slots : Slots
-    absent : Slots → Slots
-    number_slot : Wide → ℕ → Slots → Slots
-    signed_slot : ℤ → Slots → Slots
-    target_slot : Tree → Slots → Slots
+  pub data SlotTrees : Type 0 where
+    no_slots : SlotTrees
+    absent : SlotTrees → SlotTrees
+    number_slot : Wide → ℕ → SlotTrees → SlotTrees
+    signed_slot : ℤ → SlotTrees → SlotTrees
+    target_slot : Tree → SlotTrees → SlotTrees
 
   -- the trees that the offsets of a vector lead to
   pub data Trees : Type 0 where
@@ -39,7 +39,7 @@ mutual
     tree : Tree → Trees → Trees
 
 -- how many slots there are, with those that are absent
-abbrev pub slot_count : Slots → ℕ
+abbrev pub slot_count : SlotTrees → ℕ
 slot_count no_slots = 0
 slot_count (absent s) = suc (slot_count s)
 slot_count (number_slot w n s) = suc (slot_count s)

@@ -62,10 +62,10 @@ pub struct Items {
 }
 
 impl Model for Slots {
-    ghost use Rattle.vortex_flat.specs.Tree.{Slots as SlotsTree, table};
+    ghost use Rattle.vortex_flat.specs.Tree.{SlotTrees, table};
     ghost use Rattle.vortex_flat.specs.inner.TreeCode.{coded_slots, slots_weight};
 
-    ghost Value = { SlotsTree };
+    ghost Value = { SlotTrees };
 
     ghost coded = { coded_slots };
 

@@ -27,8 +27,3 @@ pub use item::{Item, Items, Slot, Slots};
 pub use numbers::u32_at;
 pub use table::{Table, root};
 pub use vector::Vector;
-
-#[cfg(test)]
-mod layout_tests;
-#[cfg(test)]
-mod tests;

@@ -9,7 +9,7 @@ use borrow.Author.Differences.{fits_in, le_T}
 use Rattle.vortex_prelude.specs.Absent.{or_zero, or_else}
 use Rattle.vortex_flat.specs.Table.{field_at}
 use Rattle.vortex_flat.specs.Targets.{VectorShape, root_place, table_place, follow, bytes_field, bytes_at, if_present}
-use Rattle.vortex_flat.specs.Tree.{one, four, offsets, text, Slots, no_slots, number_slot, signed_slot, target_slot, tree_count}
+use Rattle.vortex_flat.specs.Tree.{one, four, offsets, text, SlotTrees, no_slots, number_slot, signed_slot, target_slot, tree_count}
 use Rattle.vortex_flat.specs.Layout.{gap, size_of, trees_size, tables_fit, targets_fit, trees_fit, whole_of, layout_of}
 use Rattle.vortex_flat.specs.Reads.{Reads, ReadsSlots, ReadsTrees, InRange, SlotsInRange, TreesInRange}
 use Rattle.vortex_flat.specs.Finish.{IsTable}
@@ -26,12 +26,12 @@ use Rattle.vortex_schema.specs.TypeTree.{dtype_tree, flag_slot, metadata_slot, n
 -- ---- a DType
 
 -- a DType and its table, read
-record ReadDType (b : List ℕ) (p : ℕ) (t : Term) (slots : Slots) : Type 0 where
+record ReadDType (b : List ℕ) (p : ℕ) (t : Term) (slots : SlotTrees) : Type 0 where
   place : ℕ
   kind : IsKindAt b p t place
   slots_read : ReadsSlots b place 0 slots
 
-dtype_read : (b : List ℕ) (p : ℕ) (t : Term) (slots : Slots) → Reads b p (dtype_tree t slots) → ReadDType b p t slots
+dtype_read : (b : List ℕ) (p : ℕ) (t : Term) (slots : SlotTrees) → Reads b p (dtype_tree t slots) → ReadDType b p t slots
 dtype_read b p t slots h = record {
   place = h.1.1.0.0;
   kind = (ap or_zero h.1.0, table_field-at_target b p DTYPE_TABLE h.1.1.0.0 h.1.1.0.1 h.1.1.0.2.0);

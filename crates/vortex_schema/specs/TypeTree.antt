@@ -1,20 +1,20 @@
 -- What is laid out for a type: its tables, vectors and texts, by the schema.
 use Rattle.std.specs.Prelude.{ℕ, Bool, List, Option, Some, None, if◌then◌else◌}
-use Rattle.vortex_flat.specs.Tree.{one, four, Tree, table, offsets, bytes, text, Slots, no_slots, absent, number_slot, signed_slot, target_slot, Trees, no_trees, tree}
+use Rattle.vortex_flat.specs.Tree.{one, four, Tree, table, offsets, bytes, text, SlotTrees, no_slots, absent, number_slot, signed_slot, target_slot, Trees, no_trees, tree}
 use Rattle.vortex_terms.specs.Term.{Term, null, boolean, primitive, decimal, utf8, binary, structure, list, extension, fixed_size_list, Fields, no_fields, field}
 use Rattle.vortex_terms.specs.TermCode.{kind_number}
 use Rattle.vortex_terms.specs.Types.{type_number}
 
 -- a DType of the kind of t, whose table has these slots
-abbrev pub dtype_tree : Term → Slots → Tree
+abbrev pub dtype_tree : Term → SlotTrees → Tree
 dtype_tree t slots = table (number_slot one (type_number t) (target_slot (table slots) no_slots))
 
 -- a flag, as the last slot of a table
-abbrev pub flag_slot : Bool → Slots
+abbrev pub flag_slot : Bool → SlotTrees
 flag_slot n = number_slot one (if n then 1 else 0) no_slots
 
 -- the metadata of an extension, which takes no place where it is absent
-abbrev pub metadata_slot : Option (List ℕ) → Slots
+abbrev pub metadata_slot : Option (List ℕ) → SlotTrees
 metadata_slot None = absent no_slots
 metadata_slot (Some m) = target_slot (bytes m) no_slots
 

@@ -8,7 +8,7 @@ use Rattle.vortex_flat.specs.declared.extent.Extent.{Extent}
 use Rattle.vortex_flat.specs.declared.item.Slot.{Slot}
 use Rattle.vortex_flat.specs.declared.item.Slot.TheVariants as slots
 use Rattle.vortex_flat.specs.declared.extent.TheConstants.{LIMIT}
-use Rattle.vortex_flat.specs.Tree.{Wide, one, two, four, eight, wide, Slots}
+use Rattle.vortex_flat.specs.Tree.{Wide, one, two, four, eight, wide, SlotTrees}
 use Rattle.vortex_flat.specs.Item.{tree_of}
 use Rattle.vortex_flat.specs.Layout.{low_first, is_wide, count_of, Places, after, bytes_of, head, size_of, tables_fit}
 
@@ -79,7 +79,7 @@ places_after (Some (slots.U64 n)) p = after p eight
 places_after (Some (slots.Item t)) p = after p four
 
 -- all slots get a place in an inline part of at most limit bytes
-pub record HaveRoom (p : Places) (s : Slots) (limit : ℕ) : Type 0 where
+pub record HaveRoom (p : Places) (s : SlotTrees) (limit : ℕ) : Type 0 where
   pub eights : p.eights + 8 * count_of eight s ≤ limit
   pub fours : p.fours + 4 * count_of four s ≤ limit
   pub twos : p.twos + 2 * count_of two s ≤ limit

@@ -3,7 +3,7 @@ use Rattle.std.specs.Prelude.{◌≡◌, ℕ, suc, ◌+◌, List, refl}
 use Rattle.std.specs.Coded.{Coded, coded_ℕ, coded_ℤ, coded_list}
 use Rattle.std.proofs.Common.{ap, arith}
 use base.Stored.{Gv, gnil, gnum, gcons, num}
-use Rattle.vortex_flat.specs.Tree.{Wide, one, two, four, eight, wide, Tree, table, offsets, bytes, text, numbers, records, Slots, no_slots, absent, number_slot, signed_slot, target_slot, Trees, no_trees, tree}
+use Rattle.vortex_flat.specs.Tree.{Wide, one, two, four, eight, wide, Tree, table, offsets, bytes, text, numbers, records, SlotTrees, no_slots, absent, number_slot, signed_slot, target_slot, Trees, no_trees, tree}
 
 -- how a list of numbers is stored
 abbrev coded_bytes : Coded (List ℕ)
@@ -19,7 +19,7 @@ abbrev mutual
   tree_code (numbers xs) = gcons (gnum 4) (coded_bytes.code xs)
   tree_code (records xs) = gcons (gnum 5) (coded_bytes.code xs)
 
-  pub slots_code : Slots → Gv
+  pub slots_code : SlotTrees → Gv
   slots_code no_slots = gcons (gnum 0) gnil
   slots_code (absent s) = gcons (gnum 1) (slots_code s)
   slots_code (number_slot w n s) =
@@ -62,7 +62,7 @@ mutual
   tree_code-inj (records xs) (records ys) e = λ i. records (coded_bytes.inj xs ys (ap right e) i)
   tree_code-inj _ _ e = absurd (omega (arith, ap (λ g. num (left g)) e))
 
-  pub slots_code-inj : (s r : Slots) → slots_code s ≡ slots_code r → s ≡ r
+  pub slots_code-inj : (s r : SlotTrees) → slots_code s ≡ slots_code r → s ≡ r
   slots_code-inj no_slots no_slots e = refl
   slots_code-inj (absent s) (absent r) e = λ i. absent (slots_code-inj s r (ap right e) i)
   slots_code-inj (number_slot v n s) (number_slot w m r) e =
@@ -87,7 +87,7 @@ abbrev pub coded_tree : Coded Tree
 coded_tree = record { code = tree_code; inj = tree_code-inj }
 
 -- how slots are stored
-abbrev pub coded_slots : Coded Slots
+abbrev pub coded_slots : Coded SlotTrees
 coded_slots = record { code = slots_code; inj = slots_code-inj }
 
 -- how trees are stored
@@ -104,7 +104,7 @@ abbrev mutual
   tree_weight (numbers xs) = 1
   tree_weight (records xs) = 1
 
-  pub slots_weight : Slots → ℕ
+  pub slots_weight : SlotTrees → ℕ
   slots_weight no_slots = 1
   slots_weight (absent s) = suc (slots_weight s)
   slots_weight (number_slot w n s) = suc (slots_weight s)

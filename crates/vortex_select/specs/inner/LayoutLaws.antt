@@ -2,7 +2,7 @@
 use Rattle.std.specs.Prelude.{◌≡◌, ℕ, ◌*◌, ◌/◌, ◌%◌, ◌^◌, List, [], ◌∷◌, ◌++◌, take, drop, Some, refl}
 use Rattle.std.specs.Int.{w32, to_le_bytes, bytes_low_first}
 use Rattle.std.proofs.Common.{ap, arith}
-use Rattle.vortex_flat.specs.Tree.{one, two, four, eight, Tree, table, offsets, bytes, text, numbers, records, Slots, no_slots, number_slot, target_slot, no_trees, tree}
+use Rattle.vortex_flat.specs.Tree.{one, two, four, eight, Tree, table, offsets, bytes, text, numbers, records, SlotTrees, no_slots, number_slot, target_slot, no_trees, tree}
 use Rattle.vortex_flat.specs.Layout.{layout_of}
 use Rattle.vortex_stream.specs.declared.schema.TheConstants.{VERSION, ARRAY, DTYPE}
 use Rattle.vortex_select.specs.Column.{primitive_name}
@@ -10,13 +10,13 @@ use Rattle.vortex_select.specs.declared.schema.TheConstants.{PRIMITIVE, PTYPE_I6
 use Rattle.vortex_select.specs.Layout.{type_message, array_header, flat_to_length}
 
 -- the header of a message: the version, a kind, the table of the kind, and the size of the body
-abbrev pub header_tree : ℕ → Slots → ℕ → Tree
+abbrev pub header_tree : ℕ → SlotTrees → ℕ → Tree
 header_tree kind slots size =
     table (number_slot one VERSION (number_slot one kind
     (target_slot (table slots) (number_slot eight size no_slots))))
 
 -- how many rows, and the one name of an encoding
-abbrev pub array_slots : ℕ → Slots
+abbrev pub array_slots : ℕ → SlotTrees
 array_slots rows =
     number_slot four rows (target_slot (offsets (tree (text primitive_name) no_trees)) no_slots)
 

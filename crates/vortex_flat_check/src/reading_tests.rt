@@ -1,4 +1,4 @@
-use super::*;
+use vortex_flat::*;
 use std::test::Fail;
 
 /// A message that announces a type, without its length of four bytes: its header, and its body, a

@@ -1,4 +1,4 @@
-use super::*;
+use vortex_flat::*;
 use std::alloc::Global;
 use std::test::Fail;
 
