@@ -89,6 +89,13 @@ impl ByteBuffer {
         self.shared.as_slice()
     }
 
+    /// The shared bytes, of which a clone takes no copy.
+    pub fn inner(&self) -> &Bytes
+        ensures { result.now ≡ self.now.bytes }
+    {
+        &self.shared
+    }
+
     /// The bytes from `from` up to `to`, which stay shared with this buffer, under its alignment.
     pub fn slice(&self, _alloc: Global, from: usize, to: usize) -> Result<ByteBuffer, BufferError>
         requires start_le_end { from ≤ to }
