@@ -1,15 +1,5 @@
-pub mod Kept
-pub mod Stored
 pub mod Masked
 pub mod Steps
-pub mod Fields
-pub mod RoomLemmas
-pub mod Written
-pub mod Equal
-pub mod Places
-pub mod Projected
-pub mod Fed
-pub mod Listed
 pub mod Walked
 pub mod Viewed
 pub mod Selected

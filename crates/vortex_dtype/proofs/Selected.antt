@@ -10,8 +10,8 @@ use Rattle.vortex_names.specs.declared.error.DTypeError.{DTypeError}
 use Rattle.vortex_names.specs.declared.error.DTypeError.TheVariants as error
 use Rattle.vortex_names.specs.declared.selector.Field.{Field}
 use Rattle.vortex_dtype.specs.ViewFields.{selected_names}
-use Rattle.vortex_dtype.proofs.Fields.{fields_drop, drop_all}
-use Rattle.vortex_dtype.proofs.Projected.{project_none, project_step, project_all}
+use Rattle.vortex_types.proofs.Fields.{fields_drop, drop_all}
+use Rattle.vortex_types.proofs.Projected.{project_none, project_step, project_all}
 
 -- ---- the place of a name
 

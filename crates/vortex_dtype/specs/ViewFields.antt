@@ -1,7 +1,8 @@
 -- The fields that selectors select of a struct.
 --     resolved_field, extracted_field     the place and the type of one
 --     selected_names, projected_type      the names of many, and the struct of these fields alone
--- A type that is no struct is refused first, then a selector that is no name, and then a name without a field.
+-- A type that is no struct is refused first, then a selector that is no name, and then a name
+-- without a field.
 use Rattle.std.specs.Prelude.{ℕ, List, [], ◌∷◌, Option, Some, None, Result, Ok, Err}
 use Rattle.std.specs.Option.{ok_or, option_map}
 use Rattle.vortex_terms.specs.Term.{Term, structure, Fields}

@@ -1,41 +1,15 @@
-//! Types.
+//! Types, and what leads into them: paths, masks, and views of types that are left in buffers.
 #![tactic(auto)]
 
-mod accessors;
-mod display;
-mod dtype;
-mod element;
-mod equality;
-mod extension;
-mod field_dtype;
-mod hash;
 mod masks;
-mod name_index;
-mod nullability;
 mod path_set;
 mod paths;
-mod predicates;
-mod projection;
-mod reading;
-mod room;
-mod shape;
-mod struct_fields;
-mod struct_fields_iter;
-mod type_ref;
 mod view;
 mod viewed_fields;
-mod writing;
 
-pub use dtype::DType;
-pub use element::Element;
-pub use extension::ExtDType;
-pub use field_dtype::FieldDType;
 pub use masks::FieldMask;
 pub use path_set::FieldPathSet;
 pub use paths::FieldPath;
-pub use struct_fields::StructFields;
-pub use struct_fields_iter::StructFieldsIter;
-pub use type_ref::TypeRef;
 pub use view::DTypeView;
 pub use viewed_fields::{extract_field, project_and_deserialize, resolve_field};
 pub use vortex_names::{
@@ -44,4 +18,10 @@ pub use vortex_names::{
     FieldNamesIter, Nullability,
 };
 pub use vortex_number::PType;
-pub use writing::written_types_are_read;
+pub use vortex_types::{
+    DType, Element, ExtDType, FieldDType, StructFields, StructFieldsIter, TypeRef,
+    written_types_are_read,
+};
+
+#[cfg(test)]
+mod tests;

@@ -1,26 +1,33 @@
 //! Paths into a type.
 
-ghost use Rattle.std.specs.Prelude.{◌≡◌, [], ◌∷◌, ◌++◌, length, nat_eq, true, false, Some, is_some};
+ghost use Rattle.std.specs.Prelude.{◌≡◌, [], ◌∷◌, ◌++◌, length, nat_eq, ◌||◌, true, false, Some};
+ghost use Rattle.std.specs.Prelude.{is_some};
 ghost use Rattle.std.specs.Prelude.{IfOk, IsOkUnless};
 ghost use Rattle.std.specs.Cmp.{partial_equiv_from_equiv};
 ghost use Rattle.std.specs.Option.{option_copied, option_map, option_map_or};
 ghost use Rattle.std.specs.Str.{bytes_eq};
-ghost use Rattle.vortex_terms.specs.Path.{path_part_eq, resolved, step_type};
+ghost use Rattle.vortex_terms.specs.Path.{by_name, element, path_part_eq, resolved, step_type};
 ghost use Rattle.vortex_terms.specs.Types.{place_of};
-ghost use Rattle.vortex_dtype.specs.DTypes.{term_of};
-ghost use Rattle.vortex_dtype.specs.Paths.{part_of, parts_of, is_named_part, first_part, without_first};
+ghost use Rattle.vortex_types.specs.DTypes.{term_of};
+ghost use Rattle.vortex_dtype.specs.Paths.{part_of, parts_of, is_named_part, first_part};
+ghost use Rattle.vortex_dtype.specs.Paths.{without_first};
 ghost use Rattle.vortex_dtype.specs.Paths.{path_eq, path_text, path_writes};
 ghost use Rattle.vortex_dtype.specs.PathLaws.{path_alike, path_equivalence};
-ghost use Rattle.vortex_dtype.specs.TypeRefs.{fields_term, ref_term};
+ghost use Rattle.vortex_types.specs.Accessors.{fields_of};
+ghost use Rattle.vortex_types.specs.TypeRefs.{ref_term};
 
-use crate::dtype::DType;
-use crate::shape::{FieldsRef, Shape};
-use crate::type_ref::TypeRef;
 use std::alloc::Global;
 use std::fmt;
 use std::hash::{Hash, Hasher};
 use std::marker::Model;
 use vortex_names::{DTypeError, Field};
+use vortex_types::{DType, TypeRef};
+
+/// The number of the kind of lists of any length.
+const LIST: u8 = 8;
+
+/// The number of the kind of lists of one length.
+const FIXED_SIZE_LIST: u8 = 10;
 
 /// The steps from a type to a type inside it. Contracts see them as a list.
 ///
@@ -99,6 +106,7 @@ impl FieldPath {
         parts.push(field)?;
         Ok(FieldPath { parts: Some(parts) })
     }
+
     /// Whether the first step is to this field.
     pub fn starts_with_field(&self, field: &Field) -> bool
         requires name { is_named_part (part_of field.now) ≡ true }
@@ -233,26 +241,47 @@ fn step<'a>(r: TypeRef<'a>, field: &Field) -> Option<TypeRef<'a>>
     ensures { option_map ref_term result ≡ step_type (ref_term r.entry) (part_of field.now) }
 {
     match field {
-        Field::Name(name) => match r.shape() {
-            Shape::Struct(fields, _) => match first_of_name(fields, name.as_str()) {
-                Some(i) => fields.part(i),
-                None => None,
-            },
-            _ => None,
-        },
-        Field::ElementType => match r.shape() {
-            Shape::List(element, _) | Shape::FixedSizeList(element, _, _) => Some(element),
-            _ => None,
-        },
+        Field::Name(name) => named_step(r, name.as_str()),
+        Field::ElementType => element_step(r),
     }
 }
 
-/// The index of the first field of this name.
-fn first_of_name(fields: FieldsRef<'_>, name: &str) -> Option<usize>
-    ensures { result ≡ place_of (fields_term fields.entry) name.now }
+/// A reference to the type of the first field of this name.
+#[tactic(auto, using(crate::proofs::Walked::step_found, crate::proofs::Walked::step_lost))]
+fn named_step<'a>(r: TypeRef<'a>, name: &str) -> Option<TypeRef<'a>>
+    ensures { option_map ref_term result ≡ step_type (ref_term r.entry) (by_name name.now) }
 {
-    for i in 0..fields.len() {
-        if is_name(fields.name(i), name) {
+    match first_of_name(r, name) {
+        Some(i) => r.part(i),
+        None => None,
+    }
+}
+
+/// A reference to the type of the elements of a list.
+#[tactic(auto, using(crate::proofs::Walked::step_in, crate::proofs::Walked::no_step_in))]
+fn element_step<'a>(r: TypeRef<'a>) -> Option<TypeRef<'a>>
+    ensures { option_map ref_term result ≡ step_type (ref_term r.entry) element }
+{
+    if has_elements(r.kind()) {
+        r.part(0)
+    } else {
+        None
+    }
+}
+
+/// Whether the types of a kind are those of lists.
+fn has_elements(kind: u8) -> bool
+    ensures { result ≡ (nat_eq kind 8 || nat_eq kind 10) }
+{
+    kind == LIST || kind == FIXED_SIZE_LIST
+}
+
+/// The index of the first field of this name.
+fn first_of_name(r: TypeRef<'_>, name: &str) -> Option<usize>
+    ensures { result ≡ place_of (fields_of (ref_term r.entry)) name.now }
+{
+    for i in 0..r.nfields() {
+        if is_name(r.field_name(i), name) {
             return Some(i);
         }
     }

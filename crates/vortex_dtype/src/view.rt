@@ -1,23 +1,22 @@
 //! Types that are left in a shared buffer.
 
-ghost use Rattle.std.specs.Prelude.{◌≡◌, Some, None, IfErr, IfOk, IsOkUnless, IsSome, OnOk, unwrap_or};
+ghost use Rattle.std.specs.Prelude.{◌≡◌, Some, None, IfErr, IfOk, IsOkUnless};
 ghost use Rattle.vortex_flat.specs.Targets.{root_place};
-ghost use Rattle.vortex_terms.specs.Term.{Term, null};
+ghost use Rattle.vortex_terms.specs.Term.{Term};
 ghost use Rattle.vortex_terms.specs.Types.{Bounded, IsBytes};
-ghost use Rattle.vortex_schema.specs.Reading.{bounded_type_at};
 ghost use Rattle.vortex_schema.specs.TypeAt.{IsTypeAt, IsTypeIn};
 ghost use Rattle.vortex_schema.specs.Views.{term_at};
-ghost use Rattle.vortex_dtype.specs.DTypes.{term_of};
-ghost use Rattle.vortex_dtype.specs.View.{StandsAt, view_term};
+ghost use Rattle.vortex_types.specs.DTypes.{term_of};
+ghost use Rattle.vortex_types.specs.Standing.{StandsAt};
+ghost use Rattle.vortex_dtype.specs.View.{view_term};
 
-use crate::dtype::DType;
-use crate::reading::read_type;
 use std::alloc::Global;
 use std::marker::Model;
 use vortex_buffer::ByteBuffer;
 use vortex_flat::root;
 use vortex_names::DTypeError;
 use vortex_schema::TypeAt;
+use vortex_types::{DType, check_type, read_type};
 
 /// A type within the limits, checked and left where it stands in a shared buffer. Contracts see it
 /// as the bytes and the place.
@@ -28,7 +27,7 @@ pub struct DTypeView {
 }
 
 impl Model for DTypeView {
-    ghost use Rattle.vortex_dtype.specs.DTypes.{term_of};
+    ghost use Rattle.vortex_types.specs.DTypes.{term_of};
     ghost use Rattle.vortex_dtype.specs.View.{View};
 
     ghost Value = { View };
@@ -64,7 +63,7 @@ impl DTypeView {
         ensures refused { IfErr result (λ e.
             (e ≡ DTypeError.Malformed) × ((t : Term) → StandsAt buffer.bytes place t → ⊥)) }
     {
-        match check(buffer.as_slice(), place) {
+        match check_type(buffer.as_slice(), place) {
             Ok(()) => Ok(DTypeView { buffer, place }),
             Err(error) => Err(error),
         }
@@ -129,25 +128,11 @@ impl DTypeView {
 #[tactic(auto, using(crate::proofs::Viewed::root_there, crate::proofs::Viewed::no_root))]
 fn root_place(bytes: &[u8]) -> Result<usize, DTypeError>
     ensures found { IfOk result (λ p. root_place bytes.now ≡ Some p) }
-    ensures refused { IfErr result (λ e. (e ≡ DTypeError.Malformed) × (root_place bytes.now ≡ None)) }
+    ensures refused { IfErr result (λ e.
+        (e ≡ DTypeError.Malformed) × (root_place bytes.now ≡ None)) }
 {
     match root(bytes) {
         Ok(table) => Ok(table.place()),
-        Err(_) => Err(DTypeError::Malformed),
-    }
-}
-
-/// Whether a type within the limits stands at `place`.
-#[tactic(auto, using(crate::proofs::Viewed::there, crate::proofs::Viewed::stands, crate::proofs::Viewed::none_stands))]
-fn check(bytes: &[u8], place: usize) -> Result<(), DTypeError>
-    ensures known { OnOk result (IsSome (bounded_type_at bytes.now place)) }
-    ensures stands { OnOk result (StandsAt bytes.now place (unwrap_or (bounded_type_at bytes.now place) null)) }
-    ensures refused { IfErr result (λ e.
-        (e ≡ DTypeError.Malformed) × ((t : Term) → StandsAt bytes.now place t → ⊥)) }
-{
-    are_bytes(bytes);
-    match TypeAt::at(bytes, place) {
-        Ok(_) => Ok(()),
         Err(_) => Err(DTypeError::Malformed),
     }
 }

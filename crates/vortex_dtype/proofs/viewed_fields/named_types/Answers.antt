@@ -1,7 +1,7 @@
 use Rattle.std.proofs.Common.{◌+◌, [], ◌∷◌, ◌++◌, sym, subst, ap, ◌∙◌}
 use Rattle.vortex_terms.specs.Term.{Term}
 use Rattle.vortex_schema.specs.Views.{fields_of}
-use Rattle.vortex_dtype.specs.DTypes.{term_of}
+use Rattle.vortex_types.specs.DTypes.{term_of}
 use Rattle.vortex_dtype.proofs.Selected.{Types, types_on, types_all}
 use Rattle.vortex_dtype.proofs.viewed_fields.named_types.Goals as goal
 

@@ -1,8 +1,8 @@
 use Rattle.std.proofs.Common.{◌≡◌, drop}
 use Rattle.vortex_terms.specs.Path.{resolved}
-use Rattle.vortex_dtype.specs.DTypes.{term_of}
+use Rattle.vortex_types.specs.DTypes.{term_of}
 use Rattle.vortex_dtype.specs.Paths.{parts_of}
-use Rattle.vortex_dtype.specs.TypeRefs.{ref_term}
+use Rattle.vortex_types.specs.TypeRefs.{ref_term}
 use Rattle.vortex_dtype.proofs.paths.FieldPath.exists_in.Given as goal
 
 abbrev pub invariant-loop-field : goal.invariant-loop-field

@@ -1,6 +1,6 @@
 use Rattle.std.proofs.Common.{◌≡◌, drop}
 use Rattle.vortex_terms.specs.Path.{resolved}
-use Rattle.vortex_dtype.specs.DTypes.{term_of}
+use Rattle.vortex_types.specs.DTypes.{term_of}
 use Rattle.vortex_dtype.specs.Paths.{parts_of}
 use Rattle.vortex_dtype.proofs.paths.FieldPath.resolve.Given as goal
 

@@ -1,0 +1,11 @@
+pub mod Kept
+pub mod Stored
+pub mod Fields
+pub mod RoomLemmas
+pub mod Written
+pub mod Equal
+pub mod Places
+pub mod Projected
+pub mod Fed
+pub mod Listed
+pub mod ReadTypes

@@ -1,0 +1,16 @@
+pub mod Answers
+pub mod ExtTerm
+pub mod Made
+pub mod DTypes
+pub mod Predicates
+pub mod Accessors
+pub mod TypeRefs
+pub mod Equal
+pub mod HashInput
+pub mod EqualLaws
+pub mod NameIndex
+pub mod Text
+pub mod Falls
+pub mod Standing
+pub mod Writing
+pub mod inner
