@@ -1,7 +1,10 @@
 //! The schema of headers: the tables of this project's own, over flat buffers, and the numbers of
 //! their fields.
 
-ghost use Rattle.std.specs.Prelude.{◌≡◌};
+ghost use Rattle.std.specs.Prelude.{◌≡◌, ◌≤◌, ◌<◌, ℕ, List, None};
+ghost use Rattle.vortex_flat.specs.Targets.{VectorShape, text_element};
+ghost use Rattle.vortex_prelude.specs.Elements.{elements};
+ghost use Rattle.vortex_stream.specs.Header.{names_in};
 
 /// The field of table `Message` that holds its version.
 pub const MESSAGE_VERSION: u16 = 0;
@@ -39,4 +42,11 @@ pub fn header_schema()
     ensures kinds { (ARRAY ≡ 1) × (BUFFER ≡ 2) × (DTYPE ≡ 3) }
     ensures array { (ARRAY_ROWS ≡ 0) × (ARRAY_NAMES ≡ 1) × (MOST_NAMES ≡ 65536) }
     ensures buffer { BUFFER_ALIGNMENT ≡ 0 }
+{}
+
+/// A header names at most 65,536 encodings. This does nothing when the program runs.
+pub fn names_are_few()
+    ensures names { (b : List ℕ) (v : VectorShape) → v.count ≤ 65536
+        → names_in b v ≡ elements (text_element b v) 0 v.count }
+    ensures too_many { (b : List ℕ) (v : VectorShape) → 65536 < v.count → names_in b v ≡ None }
 {}
