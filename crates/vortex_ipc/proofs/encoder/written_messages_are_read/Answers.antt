@@ -1,0 +1,5 @@
+use Rattle.vortex_ipc.proofs.Messages.{type_is_message}
+use Rattle.vortex_ipc.proofs.encoder.written_messages_are_read.Goals as goal
+
+pub returns-clause-dtype : goal.returns-clause-dtype
+returns-clause-dtype c = type_is_message
