@@ -2,7 +2,7 @@
 
 use crate::messages::messages_answer;
 use crate::types::{same_answer, type_answer};
-use std::alloc::{AllocError, Global};
+use std::alloc::{AllocError, AllocFailed, Global};
 use vortex_buffer::BufferError;
 use vortex_dtype::DTypeError;
 use vortex_ipc::IpcError;
@@ -46,6 +46,12 @@ impl From<IpcError> for Refusal {
 
 impl From<AllocError> for Refusal {
     fn from(_error: AllocError) -> Refusal {
+        Refusal::OutOfMemory
+    }
+}
+
+impl<T: Drop> From<AllocFailed<T>> for Refusal {
+    fn from(_error: AllocFailed<T>) -> Refusal {
         Refusal::OutOfMemory
     }
 }

@@ -7,6 +7,7 @@ use vortex_array::ArrayRegistry;
 use vortex_ipc::{BytesQueue, DecoderMessage, IpcError, MessageDecoder, PollRead};
 
 /// A decoder, the bytes that it is still to be given, and what it answered so far.
+#[derive(Drop)]
 struct Decoding {
     decoder: MessageDecoder,
     queue: BytesQueue,

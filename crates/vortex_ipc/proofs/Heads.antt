@@ -28,6 +28,3 @@ header_laid (given.DType t) size = refl
 
 pub has_layout : (m : EncoderMessage) (size : ℕ) (t : Tree) → t ≡ header_tree (content_of m) size → IsSome (layout_of t)
 has_layout m size t e = subst (λ (found : Option (List ℕ)). IsSome found) (sym (ap layout_of e ∙ header_laid m size)) refl
-
-
-

@@ -83,6 +83,8 @@ buffer_is_message exponent body bytes rest small short e =
 
 pub type_is_message : (t : Term) (body bytes rest : List ℕ) → Bounded t → layout_of (tree_of_type t) ≡ Some body → message_bytes type_content body ≡ Some bytes → IsMessage (bytes ++ rest) type_content body rest × IsTypeIn body t
 type_is_message t body bytes rest bounded laid e =
-    let lt = laid_short (tree_of_type t) body laid in
-    (framed type_content (whole_of (header_tree type_content (length body))) body bytes rest
-    (type_laid (length body)) (type_header (length body) (omega (arith, lt))) e, laid_in t body bounded laid)
+    let lt = laid_short (tree_of_type t) body laid in (
+      framed type_content (whole_of (header_tree type_content (length body))) body bytes rest
+          (type_laid (length body)) (type_header (length body) (omega (arith, lt))) e,
+      laid_in t body bounded laid,
+    )

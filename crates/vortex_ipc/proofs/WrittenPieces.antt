@@ -14,8 +14,9 @@ Part old new pieces i = (done : List ℕ) × (concat pieces ≡ done ++ concat (
 next : (pieces : List (List ℕ)) (i : ℕ) (x done : List ℕ) → i < length pieces → x ≡ get_or pieces i x → concat pieces ≡ done ++ concat (drop i pieces) → concat pieces ≡ done ++ (x ++ concat (drop (i + 1) pieces))
 next pieces i x done lt e p = p ∙ ap (λ (ps : List (List ℕ)). done ++ concat ps) (drop_here pieces i x lt e)
 
-pub more : (a b c : Option (List ℕ)) (pieces : List (List ℕ)) (i : ℕ) (x : List ℕ) → i < length pieces → x ≡ get_or pieces i x → Part a b pieces i → Appends b c x → Part a c pieces (i + 1)
-more a b c pieces i x lt e p q =
+pub more : (a b c : Option (List ℕ)) (pieces : List (List ℕ)) (i : ℕ) (x y : List ℕ) → i < length pieces → x ≡ get_or pieces i x → y ≡ x → Part a b pieces i → Appends b c y → Part a c pieces (i + 1)
+more a b c pieces i x y lt e same p r =
+    let q : Appends b c x = subst (Appends b c) same r in
     (p.0 ++ x, next pieces i x p.0 lt e p.1 ∙ sym (append_assoc p.0 x (concat (drop (i + 1) pieces))), Appends-trans a b c p.0 x p.2 q)
 
 pub all : (a b : Option (List ℕ)) (pieces : List (List ℕ)) → Part a b pieces (length pieces) → Appends a b (concat pieces)
@@ -32,8 +33,9 @@ cut whole done x rest n e lt =
     let le : n ≤ length x = omega (arith, lt) in
     ap (take (length done + n)) e ∙ take-append-add done (x ++ rest) n ∙ ap (λ (xs : List ℕ). done ++ xs) (take-append-le n x rest le)
 
-pub short : (a b c : Option (List ℕ)) (pieces : List (List ℕ)) (i n : ℕ) (x : List ℕ) → i < length pieces → x ≡ get_or pieces i x → Part a b pieces i → (n < length x) × Appends b c (take n x) → Short a c pieces
-short a b c pieces i n x lt e p q =
+pub short : (a b c : Option (List ℕ)) (pieces : List (List ℕ)) (i n : ℕ) (x y : List ℕ) → i < length pieces → x ≡ get_or pieces i x → y ≡ x → Part a b pieces i → (n < length y) × Appends b c (take n y) → Short a c pieces
+short a b c pieces i n x y lt e is p r =
+    let q : (n < length x) × Appends b c (take n x) = subst (λ (l : List ℕ). (n < length l) × Appends b c (take n l)) is r in
     let whole : concat pieces ≡ p.0 ++ (x ++ concat (drop (i + 1) pieces)) = next pieces i x p.0 lt e p.1 in
     let long = length-append p.0 (x ++ concat (drop (i + 1) pieces)) in
     let behind = length-append x (concat (drop (i + 1) pieces)) in

@@ -111,11 +111,7 @@ fn head(alloc: Global, message: EncoderMessage<'_>, size: u64) -> Result<Vec<u8>
 
 /// The header of a message: its version, its kind with what is told of it, and the size of the
 /// body.
-fn header_item(
-    alloc: Global,
-    message: EncoderMessage<'_>,
-    size: u64,
-) -> Result<Item, AllocError>
+fn header_item(alloc: Global, message: EncoderMessage<'_>, size: u64) -> Result<Item, AllocError>
     ensures { IfOk result (λ item. tree_of item ≡ header_tree (content_of message.entry) size) }
 {
     let content = Some(Slot::Item(Item::Table(content(alloc, message)?)));

@@ -1,4 +1,6 @@
-use crate::{EncoderMessage, IpcError, MessageEncoder, SyncMessageWriter, VecSink, write_message_to};
+use crate::{
+    EncoderMessage, IpcError, MessageEncoder, SyncMessageWriter, VecSink, write_message_to,
+};
 use std::alloc::Global;
 use std::test::Fail;
 use vortex_buffer::{Alignment, ByteBuffer};
@@ -78,7 +80,16 @@ fn a_type_is_written(rt: HostRuntime) -> Result<(), Fail> {
     let dtype = DType::from_ptype(PType::I64);
     let message = EncoderMessage::DType(&dtype);
     assert!(rt; leaves(rt.alloc(), message, &[], &[], Ok(()), &I64)?);
-    assert!(rt; leaves(rt.alloc(), message, &[7], &[16], Err(IpcError::WriteFault), &I64[..110])?);
+    assert!(rt;
+        leaves(
+            rt.alloc(),
+            message,
+            &[7],
+            &[16],
+            Err(IpcError::WriteFault),
+            &I64[..110]
+        )?
+    );
     Ok(())
 }
 
@@ -122,9 +133,22 @@ fn lists(alloc: Global, levels: usize) -> Result<DType, DTypeError> {
 fn a_type_outside_the_limits_is_too_large(rt: HostRuntime) -> Result<(), Fail> {
     let deep = lists(rt.alloc(), 65)?;
     let too_large = Err(IpcError::TooLarge);
-    assert!(rt; leaves(rt.alloc(), EncoderMessage::DType(&deep), &[], &[], too_large, &[])?);
+    assert!(rt;
+        leaves(
+            rt.alloc(),
+            EncoderMessage::DType(&deep),
+            &[],
+            &[],
+            too_large,
+            &[]
+        )?
+    );
     let within = lists(rt.alloc(), 64)?;
     let message = EncoderMessage::DType(&within);
-    assert!(rt; MessageEncoder::default().encode(rt.alloc(), message).is_ok());
+    assert!(rt;
+        MessageEncoder::default()
+            .encode(rt.alloc(), message)
+            .is_ok()
+    );
     Ok(())
 }
