@@ -1,5 +1,7 @@
 //! Questions on messages.
 
+ghost use Rattle.std.specs.Prelude.{◌<◌, length};
+
 use crate::answers::Refusal;
 use crate::words::{buffer_of, word_of};
 use std::alloc::{AllocError, Global};
@@ -58,14 +60,22 @@ fn decode_pieces(
     let mut size = 1;
     while !rest.is_empty() {
         if let Some(next) = sizes.next() {
-            size = (*next).max(1);
+            size = *next;
         }
-        let (piece, behind) = rest.split_at(size.min(rest.len()));
+        let (piece, behind) = cut(rest, size);
         decoding.queue.push(alloc, piece)?;
         need = decode_queue(alloc, decoding)?;
         rest = behind;
     }
     Ok(need)
+}
+
+/// A piece of that size, but of a byte at least and of all bytes at most, and those behind it.
+fn cut(bytes: &[u8], size: usize) -> (&[u8], &[u8])
+    requires { 0 < length bytes.now }
+    ensures { length result.1.now < length bytes.now }
+{
+    bytes.split_at(size.max(1).min(bytes.len()))
 }
 
 /// Asks until more is needed. A message takes a byte at least, so that there are no more of them

@@ -1,5 +1,5 @@
 -- What is written for a buffer or a type is a message.
-use Rattle.std.proofs.Common.{◌≡◌, ℕ, ◌+◌, ◌*◌, ◌%◌, ◌<◌, ◌^◌, List, [], ◌∷◌, ◌++◌, length, Option, Some, refl, sym, ap, ◌∙◌, arith}
+use Rattle.std.proofs.Common.{◌≡◌, ℕ, ◌+◌, ◌<◌, ◌^◌, List, ◌++◌, length, Option, Some, refl, sym, ap, ◌∙◌, arith}
 use Rattle.std.specs.Option.{option_map}
 use Rattle.std.specs.Int.{w32, w64, to_le_bytes}
 use Rattle.std.proofs.lemmas.Nat.{from_le_bytes-to_le_bytes_4, from_le_bytes-to_le_bytes_8}
@@ -14,7 +14,7 @@ use Rattle.vortex_schema.specs.TypeTree.{tree_of_type}
 use Rattle.vortex_schema.proofs.Laid.{laid_in}
 use Rattle.vortex_stream.specs.Header.{Content, buffer_content, type_content, Header, message_table_of, content_at, header_of}
 use Rattle.vortex_stream.specs.Stream.{IsMessage}
-use Rattle.vortex_ipc.specs.Encoding.{head_of, header_tree, message_bytes, with_length}
+use Rattle.vortex_ipc.specs.Encoding.{header_tree, message_bytes, with_length}
 use Rattle.vortex_ipc.proofs.Heads.{laid_short}
 
 -- ---- numbers

@@ -81,32 +81,32 @@ IsTooLarge (given.Buffer b) = ⊥
 IsTooLarge (given.DType t) = ¬ Bounded (term_of t.now)
 
 -- the answer is what was found, and TooLarge comes exactly where it must, unless memory ran out
-abbrev pub Encodes : {A B : Type 0} → (A → B) → Result A IpcError → EncoderMessage → Option B → Type 0
+abbrev pub Encodes
+    : {A B : Type 0} → (A → B) → Result A IpcError → EncoderMessage → Option B → Type 0
 Encodes view (Ok x) m found = (found ≡ Some (view x)) × ¬ IsTooLarge m
-Encodes view (Err e) m found = (e ≡ error.OutOfMemory) ⊎ ((e ≡ error.TooLarge) × IsTooLarge m)
+Encodes view (Err e) m found =
+    (e ≡ error.OutOfMemory) ⊎ ((e ≡ error.TooLarge) × IsTooLarge m)
 
--- What a write leaves of a sink, under each answer: the message is appended; after WriteFault one
--- call failed, and a part of the message, not the whole, is appended; else the sink is as it was.
--- Nothing is flushed.
-abbrev pub WritesMessage : {T : Type 0} → Result T IpcError → EncoderMessage
-    → SinkCounts → SinkCounts → Option (List ℕ) → Option (List ℕ) → Type 0
-WritesMessage (Ok x) m before after written now =
-    ((bytes : List ℕ) × (encoded m ≡ Some bytes) × Appends written now bytes)
-    × (after ≡ before) × ¬ IsTooLarge m
-WritesMessage (Err error.WriteFault) m before after written now =
+-- What a write leaves of a sink that counts and tells its bytes so, under each answer: the message
+-- is appended; after WriteFault one call failed, and a part of the message, not the whole, is
+-- appended; after each other refusal the sink is as it was. Nothing is flushed.
+abbrev pub WritesMessage : {S T : Type 0} → (S → SinkCounts) → (S → Option (List ℕ))
+    → Result T IpcError → EncoderMessage → S → S → Type 0
+WritesMessage counts written (Ok x) m old new =
+    ((bytes : List ℕ) × (encoded m ≡ Some bytes) × Appends (written old) (written new) bytes)
+    × (counts new ≡ counts old) × ¬ IsTooLarge m
+WritesMessage counts written (Err error.WriteFault) m old new =
     ((bytes : List ℕ) × (n : ℕ) × (encoded m ≡ Some bytes) × (n < length bytes)
-    × Appends written now (take n bytes))
-    × (after ≡ with_fault before) × ¬ IsTooLarge m
-WritesMessage (Err error.TooLarge) m before after written now =
-    (after ≡ before) × (now ≡ written) × IsTooLarge m
-WritesMessage (Err error.OutOfMemory) m before after written now =
-    (after ≡ before) × (now ≡ written)
-WritesMessage (Err error.MalformedHeader) m before after written now = ⊥
-WritesMessage (Err (error.WrongKind found)) m before after written now = ⊥
-WritesMessage (Err error.UnknownEncoding) m before after written now = ⊥
-WritesMessage (Err error.MalformedDType) m before after written now = ⊥
-WritesMessage (Err error.MalformedArray) m before after written now = ⊥
-WritesMessage (Err error.Failed) m before after written now = ⊥
-WritesMessage (Err error.UnexpectedEnd) m before after written now = ⊥
-WritesMessage (Err error.ReadFault) m before after written now = ⊥
-WritesMessage (Err error.ReadLimit) m before after written now = ⊥
+    × Appends (written old) (written new) (take n bytes))
+    × (counts new ≡ with_fault (counts old)) × ¬ IsTooLarge m
+WritesMessage counts written (Err error.TooLarge) m old new = (new ≡ old) × IsTooLarge m
+WritesMessage counts written (Err error.OutOfMemory) m old new = new ≡ old
+WritesMessage counts written (Err error.MalformedHeader) m old new = ⊥
+WritesMessage counts written (Err (error.WrongKind found)) m old new = ⊥
+WritesMessage counts written (Err error.UnknownEncoding) m old new = ⊥
+WritesMessage counts written (Err error.MalformedDType) m old new = ⊥
+WritesMessage counts written (Err error.MalformedArray) m old new = ⊥
+WritesMessage counts written (Err error.Failed) m old new = ⊥
+WritesMessage counts written (Err error.UnexpectedEnd) m old new = ⊥
+WritesMessage counts written (Err error.ReadFault) m old new = ⊥
+WritesMessage counts written (Err error.ReadLimit) m old new = ⊥

@@ -37,7 +37,6 @@ pub struct MessageEncoder;
 
 /// What is written for a buffer or a type is a message, whatever follows it, and it holds the same
 /// under the same body. This does nothing when the program runs.
-#[tactic(auto, using(crate::proofs::Messages::buffer_is_message, crate::proofs::Messages::type_is_message))]
 pub fn written_messages_are_read()
     ensures buffer { (exponent : ℕ) (body bytes rest : List ℕ)
         → exponent < 2 ^ 8 → length body < 2 ^ 64
@@ -57,7 +56,8 @@ impl MessageEncoder {
         alloc: Global,
         message: EncoderMessage<'_>,
     ) -> Result<Vec<Bytes>, IpcError>
-        ensures pieces { Encodes (λ v. v.items) result message.entry (encoded_pieces message.entry) }
+        ensures pieces { Encodes (λ v. v.items) result message.entry
+            (encoded_pieces message.entry) }
         ensures joined { IfOk result (λ v. encoded message.entry ≡ Some (concat v.items)) }
     {
         let body = body(alloc, message)?;

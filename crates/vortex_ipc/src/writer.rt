@@ -31,8 +31,8 @@ impl<K: Sink> SyncMessageWriter<K> {
         alloc: Global,
         message: EncoderMessage<'_>,
     ) -> Result<(), IpcError>
-        ensures { WritesMessage result message.entry (K.counts self.old.sink)
-            (K.counts self.new.sink) (K.written self.old.sink) (K.written self.new.sink) }
+        ensures { WritesMessage K.counts K.written result message.entry
+            self.old.sink self.new.sink }
     {
         write_message_to(alloc, &mut self.sink, message)
     }
@@ -44,8 +44,7 @@ pub fn write_message_to<K: Sink>(
     sink: &mut K,
     message: EncoderMessage<'_>,
 ) -> Result<(), IpcError>
-    ensures { WritesMessage result message.entry (K.counts sink.old) (K.counts sink.new)
-        (K.written sink.old) (K.written sink.new) }
+    ensures { WritesMessage K.counts K.written result message.entry sink.old sink.new }
 {
     let pieces = MessageEncoder.encode(alloc, message)?;
     write_pieces(sink, &pieces)
