@@ -1,4 +1,5 @@
 use crate::ArrayRegistry;
+use crate::schema::DICT;
 use std::test::Fail;
 
 #[test]
@@ -19,13 +20,8 @@ fn all_encodings_but_that_of_dictionaries(rt: HostRuntime) -> Result<(), Fail> {
     for name in held {
         assert!(rt; registry.holds(name));
     }
-    for name in [
-        "vortex.dict",
-        "vortex.nul",
-        "vortex.null ",
-        "VORTEX.NULL",
-        "",
-    ] {
+    assert!(rt; DICT == "vortex.dict");
+    for name in [DICT, "vortex.nul", "vortex.null ", "VORTEX.NULL", ""] {
         assert!(rt; !registry.holds(name));
     }
     Ok(())

@@ -8,7 +8,7 @@ use Rattle.vortex_flat.proofs.Lengths.{length-bytes_of}
 use Rattle.vortex_flat.proofs.TableLemmas.{guard_some, and_split}
 use Rattle.vortex_ipc.specs.declared.encoder.EncoderMessage.{EncoderMessage}
 use Rattle.vortex_ipc.specs.declared.encoder.EncoderMessage.TheVariants as given
-use Rattle.vortex_ipc.specs.Encoding.{content_of, header_tree}
+use Rattle.vortex_ipc.specs.Encoding.{header_tree}
 
 -- a layout is short
 pub laid_short : (t : Tree) (b : List ℕ) → layout_of t ≡ Some b → length b < 2 ^ 32
@@ -20,11 +20,11 @@ laid_short t b e =
     let whole : length (whole_of t) ≡ suc (suc (suc (suc (suc (suc (suc (suc (length (bytes_of t))))))))) = refl in
     omega (arith, ap length g.1, whole, length-bytes_of t, short)
 
--- the header of a buffer or a type has a layout
-header_laid : (m : EncoderMessage) (size : ℕ) → layout_of (header_tree (content_of m) size) ≡ Some (whole_of (header_tree (content_of m) size))
+-- a header has a layout
+pub header_laid : (m : EncoderMessage) (size : ℕ) → layout_of (header_tree m size) ≡ Some (whole_of (header_tree m size))
 unfolding layout_of
 header_laid (given.Buffer b) size = refl
 header_laid (given.DType t) size = refl
 
-pub has_layout : (m : EncoderMessage) (size : ℕ) (t : Tree) → t ≡ header_tree (content_of m) size → IsSome (layout_of t)
+pub has_layout : (m : EncoderMessage) (size : ℕ) (t : Tree) → t ≡ header_tree m size → IsSome (layout_of t)
 has_layout m size t e = subst (λ (found : Option (List ℕ)). IsSome found) (sym (ap layout_of e ∙ header_laid m size)) refl

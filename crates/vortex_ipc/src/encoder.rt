@@ -6,13 +6,11 @@ ghost use Rattle.std.specs.Option.{option_map};
 ghost use Rattle.vortex_flat.specs.Finish.{IsTable};
 ghost use Rattle.vortex_flat.specs.Item.{tree_of};
 ghost use Rattle.vortex_flat.specs.Layout.{layout_of};
-ghost use Rattle.vortex_terms.specs.Term.{Term};
-ghost use Rattle.vortex_terms.specs.Types.{Bounded};
-ghost use Rattle.vortex_schema.specs.TypeAt.{IsTypeIn};
-ghost use Rattle.vortex_schema.specs.TypeTree.{tree_of_type};
-ghost use Rattle.vortex_stream.specs.Header.{buffer_content, kind_of, type_content};
-ghost use Rattle.vortex_stream.specs.Stream.{IsMessage};
-ghost use Rattle.vortex_ipc.specs.Encoding.{Encodes, body_of, content_of, content_slots, encoded, encoded_pieces, head_of, header_tree, in_pieces, message_bytes, with_length};
+ghost use Rattle.vortex_stream.specs.Header.{kind_of};
+ghost use Rattle.vortex_ipc.specs.Encoding.{Encodes, FitsHeader, IsReadAs, body_of, content_of};
+ghost use Rattle.vortex_ipc.specs.Encoding.{content_slots, encoded, encoded_pieces, head_of};
+ghost use Rattle.vortex_ipc.specs.Encoding.{header_tree, in_pieces, with_length};
+ghost use Rattle.vortex_ipc.specs.declared.encoder.EncoderMessage.{EncoderMessage};
 
 use bytes::Bytes;
 use std::alloc::{AllocError, Global};
@@ -35,17 +33,12 @@ pub enum EncoderMessage<'a> {
 #[derive(Clone, Copy, Debug, Default)]
 pub struct MessageEncoder;
 
-/// What is written for a buffer or a type is a message, whatever follows it, and it holds the same
-/// under the same body. This does nothing when the program runs.
+/// What is written is a message, whatever follows it, and it holds what was given.
+///
+/// This does nothing when the program runs.
 pub fn written_messages_are_read()
-    ensures buffer { (exponent : ℕ) (body bytes rest : List ℕ)
-        → exponent < 2 ^ 8 → length body < 2 ^ 64
-        → message_bytes (buffer_content exponent) body ≡ Some bytes
-        → IsMessage (bytes ++ rest) (buffer_content exponent) body rest }
-    ensures dtype { (t : Term) (body bytes rest : List ℕ)
-        → Bounded t → layout_of (tree_of_type t) ≡ Some body
-        → message_bytes type_content body ≡ Some bytes
-        → IsMessage (bytes ++ rest) type_content body rest × IsTypeIn body t }
+    ensures { (m : EncoderMessage) (bytes rest : List ℕ) → FitsHeader m
+        → encoded m ≡ Some bytes → IsReadAs m (bytes ++ rest) rest }
 {}
 
 impl MessageEncoder {
@@ -102,7 +95,7 @@ fn pieces(alloc: Global, head: Vec<u8>, body: Bytes) -> Result<Vec<Bytes>, IpcEr
 
 /// What stands before a body of that size: the header, behind its length.
 fn head(alloc: Global, message: EncoderMessage<'_>, size: u64) -> Result<Vec<u8>, IpcError>
-    ensures head { IfOk result (λ v. head_of (content_of message.entry) size ≡ Some v.items) }
+    ensures head { IfOk result (λ v. head_of message.entry size ≡ Some v.items) }
     ensures memory { IsOkUnless result IpcError.OutOfMemory }
 {
     let item = header_item(alloc, message, size)?;
@@ -112,7 +105,7 @@ fn head(alloc: Global, message: EncoderMessage<'_>, size: u64) -> Result<Vec<u8>
 /// The header of a message: its version, its kind with what is told of it, and the size of the
 /// body.
 fn header_item(alloc: Global, message: EncoderMessage<'_>, size: u64) -> Result<Item, AllocError>
-    ensures { IfOk result (λ item. tree_of item ≡ header_tree (content_of message.entry) size) }
+    ensures { IfOk result (λ item. tree_of item ≡ header_tree message.entry size) }
 {
     let content = Some(Slot::Item(Item::Table(content(alloc, message)?)));
     let slots = vec![in alloc;
@@ -136,7 +129,7 @@ fn kind(message: EncoderMessage<'_>) -> MessageKind
 
 /// What the header tells of what the message holds.
 fn content(alloc: Global, message: EncoderMessage<'_>) -> Result<Slots, AllocError>
-    ensures { IfOk result (λ slots. slots ≡ content_slots (content_of message.entry)) }
+    ensures { IfOk result (λ slots. slots ≡ content_slots message.entry) }
 {
     let slots = match message {
         EncoderMessage::Buffer(buffer) => {

@@ -68,6 +68,10 @@ fn a_buffer_is_written(rt: HostRuntime) -> Result<(), Fail> {
     let message = EncoderMessage::Buffer(&buffer);
     let fault = Err(IpcError::WriteFault);
     assert!(rt; leaves(alloc, message, &[], &[], Ok(()), &BUFFER)?);
+    assert!(rt;
+        leaves(alloc, message, &[], &[2], Ok(()), &BUFFER)?,
+        "two writes"
+    );
     assert!(rt; leaves(alloc, message, &[], &[0], fault, &[])?);
     assert!(rt; leaves(alloc, message, &[], &[1], fault, &BUFFER[..68])?);
     assert!(rt; leaves(alloc, message, &[1], &[70], fault, &BUFFER[..70])?);
@@ -94,9 +98,24 @@ fn a_type_is_written(rt: HostRuntime) -> Result<(), Fail> {
 }
 
 #[test]
-fn pieces_are_not_empty(rt: HostRuntime) -> Result<(), Fail> {
+fn an_empty_buffer_is_one_piece(rt: HostRuntime) -> Result<(), Fail> {
     let alloc = rt.alloc();
     let empty = ByteBuffer::empty().with_alignment(Alignment::from_exponent(5));
+    let mut want = BUFFER;
+    want[36] = 0;
+    want[64] = 5;
+    let message = EncoderMessage::Buffer(&empty);
+    assert!(rt;
+        leaves(alloc, message, &[], &[1], Ok(()), &want[..68])?,
+        "one write"
+    );
+    Ok(())
+}
+
+#[test]
+fn pieces_are_not_empty(rt: HostRuntime) -> Result<(), Fail> {
+    let alloc = rt.alloc();
+    let empty = ByteBuffer::empty();
     let pieces = MessageEncoder::default().encode(alloc, EncoderMessage::Buffer(&empty))?;
     assert_eq!(rt; pieces.len(), 1);
     let dtype = DType::from_ptype(PType::I64);
