@@ -1,9 +1,11 @@
 //! The answer to a question.
 
+use crate::messages::messages_answer;
 use crate::types::{same_answer, type_answer};
-use std::alloc::{AllocError, Global};
+use std::alloc::{AllocError, AllocFailed, Global};
 use vortex_buffer::BufferError;
 use vortex_dtype::DTypeError;
+use vortex_ipc::IpcError;
 
 /// Why a question has no answer, or a name alone.
 pub(crate) enum Refusal {
@@ -33,8 +35,23 @@ impl From<BufferError> for Refusal {
     }
 }
 
+impl From<IpcError> for Refusal {
+    fn from(error: IpcError) -> Refusal {
+        match error {
+            IpcError::OutOfMemory => Refusal::OutOfMemory,
+            _ => Refusal::Unknown,
+        }
+    }
+}
+
 impl From<AllocError> for Refusal {
     fn from(_error: AllocError) -> Refusal {
+        Refusal::OutOfMemory
+    }
+}
+
+impl<T: Drop> From<AllocFailed<T>> for Refusal {
+    fn from(_error: AllocFailed<T>) -> Refusal {
         Refusal::OutOfMemory
     }
 }
@@ -54,6 +71,7 @@ fn asked(alloc: Global, line: &str) -> Result<String, Refusal> {
     match (words.next(), words.next(), words.next(), words.next()) {
         (Some("type"), Some(place), Some(bytes), None) => type_answer(alloc, place, bytes),
         (Some("same"), Some(one), Some(other), None) => same_answer(alloc, one, other),
+        (Some("messages"), Some(sizes), Some(bytes), None) => messages_answer(alloc, sizes, bytes),
         _ => Err(Refusal::Unknown),
     }
 }

@@ -3,6 +3,7 @@
 #![tactic(auto)]
 
 mod answers;
+mod messages;
 mod types;
 mod words;
 
