@@ -1,0 +1,5 @@
+pub mod Message
+pub mod Queue
+pub mod Decoding
+pub mod Decoder
+pub mod inner
