@@ -70,3 +70,18 @@ array_is b p kind e = rw e (rows_are (or_zero (number_field b p 0 4)))
     rows_are : (r : Option ℕ) → option_map content_head (r >>= λ rows. (or_empty 4 (vector_field b p 1 4) >>= names_in b) >>= λ ns. Some (array_content rows ns)) ≡ (r >>= λ rows. (or_empty 4 (vector_field b p 1 4) >>= λ w. known_names (names_in b w)) >>= λ _. Some (record { kind = Array; exponent = 0 }))
     rows_are None = refl
     rows_are (Some rows) = names_are rows (or_empty 4 (vector_field b p 1 4))
+
+-- what is kept of a buffer
+pub buffer_is : (b : List ℕ) (p kind : ℕ) → kind ≡ 2 → option_map content_head (content_at b p kind) ≡ option_map content_head (option_map buffer_content (or_zero (number_field b p 0 1)))
+unfolding content_at
+buffer_is b p kind e = rw e refl
+
+-- what is kept of a type
+pub type_is : (b : List ℕ) (p kind : ℕ) → kind ≡ 3 → option_map content_head (content_at b p kind) ≡ Some (record { kind = DType; exponent = 0 })
+unfolding content_at
+type_is b p kind e = rw e refl
+
+-- no other kind
+pub none_is : (b : List ℕ) (p kind : ℕ) → (kind ≡ 1 → ⊥) → (kind ≡ 2 → ⊥) → (kind ≡ 3 → ⊥) → option_map content_head (content_at b p kind) ≡ None
+unfolding content_at
+none_is b p kind one two three = rw (ne_eqb kind 1 one, ne_eqb kind 2 two, ne_eqb kind 3 three) refl

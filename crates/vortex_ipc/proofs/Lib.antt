@@ -1,1 +1,3 @@
 pub mod HeadLemmas
+pub mod QueueLemmas
+pub mod TakenLemmas

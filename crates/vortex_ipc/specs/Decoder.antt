@@ -48,13 +48,13 @@ FailsBy wanted old before error.WriteFault new after = ⊥
 FailsBy wanted old before error.TooLarge new after = ⊥
 
 -- What one call answered, and what it left of its state and of the bytes before it. Where more is
--- needed, what was begun and what is left are what they were, together. A message is followed by
--- what is left.
+-- needed, what is left is what there is of the present part, and with what was taken before it all
+-- is as it was. A message is followed by what is left.
 abbrev pub ReadsNext
     : Option MessageKind → DecoderState → List ℕ → Result PollRead IpcError → DecoderState → List ℕ
     → Type 0
 ReadsNext wanted old before (Ok (poll.NeedMore size)) new after =
-    (old.failed ≡ false) × Decodes wanted (old.begun ++ before) (more size)
+    (old.failed ≡ false) × Decodes wanted (old.begun ++ before) (more size after)
     × (new.failed ≡ false) × (new.begun ++ after ≡ old.begun ++ before)
 ReadsNext wanted old before (Ok (poll.Some message)) new after =
     (old.failed ≡ false) × Decodes wanted (old.begun ++ before) (found (message_of message) after)

@@ -11,9 +11,10 @@ use Rattle.vortex_stream.specs.declared.error.IpcError.{IpcError}
 use Rattle.vortex_stream.specs.declared.error.IpcError.TheVariants as error
 use Rattle.vortex_ipc.specs.Message.{Message, StandsFor}
 
--- more bytes are needed of a part that has so many; an error of content; or a message and the rest
+-- more bytes are needed of a part that has so many, of which these are there; an error of content;
+-- or a message and the bytes behind it
 pub data Outcome : Type 0 where
-  more : (size : ℕ) → Outcome
+  more : (size : ℕ) (there : List ℕ) → Outcome
   refused : (error : IpcError) → Outcome
   found : (message : Message) (rest : List ℕ) → Outcome
 
@@ -50,14 +51,14 @@ pub record HasHeader (bytes : List ℕ) (content : Content) (body_size : ℕ) (r
   pub begins : BeginsWithHeader bytes header rest
   pub header_is : header_of header ≡ Some (record { content = content; body_size = body_size })
 
--- Fewer bytes stand there than the present part has in all: the four bytes of the length, the
--- header, or the body of a message that is answered.
-abbrev pub NeedsMore : Option MessageKind → List ℕ → ℕ → Type 0
-NeedsMore wanted bytes size =
-    ((length bytes < 4) × (size ≡ 4))
-    ⊎ ((rest : List ℕ) × BeginsWithLength bytes size rest × (length rest < size))
-    ⊎ ((content : Content) × (rest : List ℕ) × HasHeader bytes content size rest
-    × (is_answered wanted (kind_of content) ≡ true) × (length rest < size))
+-- Fewer bytes are there than the present part has in all: the four bytes of the length, the header,
+-- or the body of a message that is answered.
+abbrev pub NeedsMore : Option MessageKind → List ℕ → ℕ → List ℕ → Type 0
+NeedsMore wanted bytes size there =
+    ((bytes ≡ there) × (size ≡ 4) × (length there < size))
+    ⊎ (BeginsWithLength bytes size there × (length there < size))
+    ⊎ ((content : Content) × HasHeader bytes content size there
+    × (is_answered wanted (kind_of content) ≡ true) × (length there < size))
 
 -- a whole header is of a kind that is not answered
 abbrev pub HasOtherKind : Option MessageKind → List ℕ → MessageKind → Type 0
@@ -95,6 +96,6 @@ HasMessage wanted bytes message rest =
 
 -- What a decoder that is asked for a kind, or for any, is to answer to these bytes.
 abbrev pub Decodes : Option MessageKind → List ℕ → Outcome → Type 0
-Decodes wanted bytes (more size) = NeedsMore wanted bytes size
+Decodes wanted bytes (more size there) = NeedsMore wanted bytes size there
 Decodes wanted bytes (refused error) = IsFlawed wanted bytes error
 Decodes wanted bytes (found message rest) = HasMessage wanted bytes message rest

@@ -2,4 +2,5 @@ pub mod Message
 pub mod Queue
 pub mod Decoding
 pub mod Decoder
+pub mod Reader
 pub mod inner

@@ -63,7 +63,7 @@ IsFar begun.Failed rest = ⊥
 abbrev pub Answered
     : Option MessageKind → List ℕ → Begun → PollRead → List ℕ → Type 0
 Answered wanted bytes b (poll.NeedMore size) rest =
-    NeedsMore wanted bytes size × (has_failed b ≡ false) × (begun_bytes b ++ rest ≡ bytes)
+    NeedsMore wanted bytes size rest × (has_failed b ≡ false) × (begun_bytes b ++ rest ≡ bytes)
 Answered wanted bytes b (poll.Some message) rest =
     HasMessage wanted bytes (message_of message) rest × (b ≡ begun.Nothing)
 

@@ -1,0 +1,21 @@
+-- What a queue loses.
+use Rattle.std.proofs.Common.{◌≡◌, ℕ, ◌+◌, ◌-◌, ◌≤◌, List, [], ◌++◌, length, take, drop, refl, sym, ap, ◌∙◌, arith, append_assoc, take-append-drop}
+use Rattle.std.specs.Prelude.{slice_range}
+use Rattle.std.proofs.lemmas.List.{length-take, length-drop, length-append, drop-drop}
+use Rattle.vortex_ipc.specs.Queue.{HasLost}
+
+-- nothing is lost
+pub lost_none : (xs : List ℕ) → HasLost xs xs
+lost_none xs = ([], refl)
+
+-- all is lost
+pub lost_all : (xs : List ℕ) → HasLost xs []
+lost_all xs = (xs, sym (append-nil xs))
+
+-- what was taken is lost, and then some more
+pub lost_more : (a p m n : List ℕ) → a ≡ p ++ m → HasLost m n → HasLost a n
+lost_more a p m n e h = (p ++ h.0, e ∙ ap (λ (l : List ℕ). p ++ l) h.1 ∙ sym (append_assoc p h.0 n))
+
+-- what was taken is lost
+pub lost_taken : (a p m : List ℕ) → a ≡ p ++ m → HasLost a m
+lost_taken a p m e = (p, e)
