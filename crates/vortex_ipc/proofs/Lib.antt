@@ -1,3 +1,4 @@
 pub mod HeadLemmas
 pub mod QueueLemmas
 pub mod TakenLemmas
+pub mod Fronts

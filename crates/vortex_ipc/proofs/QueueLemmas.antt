@@ -1,7 +1,8 @@
 -- What a queue loses.
-use Rattle.std.proofs.Common.{◌≡◌, ℕ, ◌+◌, ◌-◌, ◌≤◌, List, [], ◌++◌, length, take, drop, refl, sym, ap, ◌∙◌, arith, append_assoc, take-append-drop}
+use Rattle.std.proofs.Common.{◌≡◌, ℕ, ◌+◌, ◌-◌, ◌≤◌, List, [], ◌++◌, length, take, drop, refl, sym, ap, ◌∙◌, arith, append_assoc, append-nil}
 use Rattle.std.specs.Prelude.{slice_range}
-use Rattle.std.proofs.lemmas.List.{length-take, length-drop, length-append, drop-drop}
+use Rattle.std.proofs.lemmas.List.{length-take, length-drop}
+use Rattle.std.proofs.lemmas.List.Folds.{drop_split}
 use Rattle.vortex_ipc.specs.Queue.{HasLost}
 
 -- nothing is lost
@@ -19,3 +20,11 @@ lost_more a p m n e h = (p ++ h.0, e ∙ ap (λ (l : List ℕ). p ++ l) h.1 ∙ 
 -- what was taken is lost
 pub lost_taken : (a p m : List ℕ) → a ≡ p ++ m → HasLost a m
 lost_taken a p m e = (p, e)
+
+-- a part of the first piece, and what is behind it
+pub queue_parts : (piece pushed : List ℕ) (at end : ℕ) → at ≤ end → drop at piece ++ pushed ≡ slice_range piece at end ++ (drop end piece ++ pushed)
+queue_parts piece pushed at end le = ap (λ (l : List ℕ). l ++ pushed) (drop_split piece at end le) ∙ append_assoc (slice_range piece at end) (drop end piece) pushed
+
+-- how long a part is
+pub part_len : (piece : List ℕ) (at end : ℕ) → at ≤ end → end ≤ length piece → length (slice_range piece at end) ≡ end - at
+part_len piece at end le within = omega (arith, length-take (end - at) (drop at piece), length-drop at piece)

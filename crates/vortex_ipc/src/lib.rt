@@ -18,4 +18,6 @@ pub use sync_reader::SyncMessageReader;
 pub use vortex_stream::{IpcError, MessageKind, Sink, SinkCounts, SinkFailed, Source, SourceCounts, SourceFailed, VecSink, VecSource};
 
 #[cfg(test)]
+mod reader_tests;
+#[cfg(test)]
 mod tests;

@@ -8,7 +8,7 @@ use vortex_array::ArrayRegistry;
 
 
 /// The message of the buffer [1, 2, 3] of alignment 0.
-const BUFFER: [u8; 71] = [
+pub(crate) const BUFFER: [u8; 71] = [
     64, 0, 0, 0, 24, 0, 0, 0, 0, 0, 0, 0, 12, 0, 22, 0, 20, 0, 21, 0, 16, 0, 8, 0, 0, 0, 0, 0, 16,
     0, 0, 0, 0, 0, 0, 0, 3, 0, 0, 0, 0, 0, 0, 0, 16, 0, 0, 0, 0, 2, 0, 0, 6, 0, 5, 0, 4, 0, 0, 0, 8,
     0, 0, 0, 0, 0, 0, 0, 1, 2, 3,
@@ -16,14 +16,14 @@ const BUFFER: [u8; 71] = [
 
 /// What was read, in short.
 #[derive(Clone, Copy, Debug, PartialEq, Eq)]
-enum Read {
+pub(crate) enum Read {
     Buffer(usize),
     DType,
     NeedMore(usize),
     Failed(IpcError),
 }
 
-fn short(message: &DecoderMessage) -> Read {
+pub(crate) fn short(message: &DecoderMessage) -> Read {
     match message {
         DecoderMessage::Buffer(buffer) => Read::Buffer(buffer.len()),
         DecoderMessage::DType(_) => Read::DType,
@@ -121,5 +121,23 @@ fn two_messages_in_one_piece(rt: HostRuntime) -> Result<(), Fail> {
     assert_eq!(rt; second, Read::Failed(IpcError::WrongKind { found }));
     let third = short_poll(decoder.read_next(rt.alloc(), &mut queue));
     assert_eq!(rt; third, Read::Failed(IpcError::Failed));
+    Ok(())
+}
+
+/// The message of a type that has 64 bits and a sign, and is never null.
+const TYPE: [u8; 116] = [
+    64, 0, 0, 0, 24, 0, 0, 0, 0, 0, 0, 0, 12, 0, 22, 0, 20, 0, 21, 0, 16, 0, 8, 0, 0, 0, 0, 0, 16,
+    0, 0, 0, 0, 0, 0, 0, 48, 0, 0, 0, 0, 0, 0, 0, 16, 0, 0, 0, 0, 3, 0, 0, 4, 0, 4, 0, 0, 0, 0, 0,
+    8, 0, 0, 0, 0, 0, 0, 0, 16, 0, 0, 0, 0, 0, 0, 0, 8, 0, 9, 0, 8, 0, 4, 0, 8, 0, 0, 0, 20, 0, 0,
+    0, 3, 0, 0, 0, 0, 0, 0, 0, 8, 0, 6, 0, 4, 0, 5, 0, 8, 0, 0, 0, 7, 0, 0, 0,
+];
+
+#[test]
+fn types(rt: HostRuntime) -> Result<(), Fail> {
+    assert_eq!(rt; decoded(rt.alloc(), &TYPE)?, Read::DType);
+    let mut broken = TYPE;
+    broken[92] = 200;
+    let none = Read::Failed(IpcError::MalformedDType);
+    assert_eq!(rt; decoded(rt.alloc(), &broken)?, none);
     Ok(())
 }
