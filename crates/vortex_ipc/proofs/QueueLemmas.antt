@@ -28,3 +28,15 @@ queue_parts piece pushed at end le = ap (λ (l : List ℕ). l ++ pushed) (drop_s
 -- how long a part is
 pub part_len : (piece : List ℕ) (at end : ℕ) → at ≤ end → end ≤ length piece → length (slice_range piece at end) ≡ end - at
 part_len piece at end le within = omega (arith, length-take (end - at) (drop at piece), length-drop at piece)
+
+-- nothing is left
+pub lost_nil : (xs ys : List ℕ) → ys ≡ [] → HasLost xs ys
+lost_nil xs ys e = (xs, sym (ap (λ (l : List ℕ). xs ++ l) e ∙ append-nil xs))
+
+-- the first bytes, and those behind them
+pub queue_taken : (old piece pushed taken : List ℕ) (at end : ℕ) → old ≡ drop at piece ++ pushed → at ≤ end → taken ≡ slice_range piece at end → old ≡ taken ++ (drop end piece ++ pushed)
+queue_taken old piece pushed taken at end e le t = e ∙ queue_parts piece pushed at end le ∙ ap (λ (l : List ℕ). l ++ (drop end piece ++ pushed)) (sym t)
+
+-- all is in the first piece
+pub no_pushed : (all piece pushed : List ℕ) → piece ≡ all → pushed ≡ [] → all ≡ drop 0 piece ++ pushed
+no_pushed all piece pushed e n = sym (ap (λ (l : List ℕ). piece ++ l) n ∙ append-nil piece ∙ e)

@@ -73,19 +73,45 @@ has_header t q i h = record {
 kind_is : (t : TakenHeader) (h : IsHeadOf t.header.bytes t.head) → kind_of h.content ≡ t.head.content.kind
 kind_is t h = ap (λ (c : ContentHead). c.kind) h.content_is
 
+-- ---- steps
+
+no_head : (o : Option Header) → option_map head_of o ≡ None → o ≡ None
+no_head None e = refl
+no_head (Some h) e = absurd (some_none (head_of h) e)
+  where
+    some_none : (x : Head) → ◌≡◌ {A = Option Head} (Some x) None → ⊥
+    some_none x e = cc
+
+-- the header that was taken is none
+pub none_taken : (prefix q header rest : List ℕ) (e : IpcError) → length prefix ≡ 4 → q ≡ header ++ rest → length header ≡ little_endian prefix → option_map head_of (header_of header) ≡ None → e ≡ error.MalformedHeader → NoHeaderBy (prefix ++ q) e
+none_taken prefix q header rest e len parts size none is = inr (is, no_header prefix q header rest len parts size (no_head (header_of header) none))
+
+-- it is one
+pub is_taken : (t : TakenHeader) → length t.prefix.bytes ≡ 4 → length t.header.bytes ≡ little_endian t.prefix.bytes → option_map head_of (header_of t.header.bytes) ≡ Some t.head → IsTaken t
+is_taken t len size head = record { prefix_len = len; size_is = sym size; head_is = head }
+
+-- what was taken before the rest
+pub taken_parts : (t : TakenHeader) (q rest : List ℕ) → q ≡ t.header.bytes ++ rest → t.prefix.bytes ++ q ≡ taken_bytes t ++ rest
+taken_parts t q rest e = ap (λ (l : List ℕ). t.prefix.bytes ++ l) e ∙ sym (append_assoc t.prefix.bytes t.header.bytes rest)
+
+-- lack of memory, or no header, stops a step
+pub stops_early : (wanted : Option MessageKind) (bytes : List ℕ) (e : IpcError) → NoHeaderBy bytes e → StopsBy wanted bytes e
+stops_early wanted bytes e (inl memory) = inl memory
+stops_early wanted bytes e (inr h) = inr (subst (IsFlawed wanted bytes) (sym h.0) h.1)
+
 -- ---- the answers to a header that was taken
 
 -- it is of another kind
 pub other_kind : (wanted : Option MessageKind) (t : TakenHeader) (q : List ℕ) (e : IpcError) → IsTaken t → e ≡ error.WrongKind (Some t.head.content.kind) → is_answered wanted t.head.content.kind ≡ false → StopsBy wanted (taken_bytes t ++ q) e
-other_kind wanted t q e i is no =
+other_kind wanted t q e i is other =
     let h = head_is t.header.bytes t.head i.head_is in
-    inr (subst (IsFlawed wanted (taken_bytes t ++ q)) (sym is) (h.content, t.head.body_size, q, has_header t q i h, kind_is t h, no))
+    inr (subst (IsFlawed wanted (taken_bytes t ++ q)) (sym is) (h.content, t.head.body_size, q, has_header t q i h, kind_is t h, other))
 
 -- more is needed of its body
 pub cut_body : (wanted : Option MessageKind) (t : TakenHeader) (q : List ℕ) (size : ℕ) → IsTaken t → is_answered wanted t.head.content.kind ≡ true → size ≡ t.head.body_size → length q < t.head.body_size → NeedsMore wanted (taken_bytes t ++ q) size q
-cut_body wanted t q size i yes e lt =
+cut_body wanted t q size i asked e lt =
     let h = head_is t.header.bytes t.head i.head_is in
-    subst (λ (n : ℕ). NeedsMore wanted (taken_bytes t ++ q) n q) (sym e) (inr (inr (h.content, has_header t q i h, ap (is_answered wanted) (kind_is t h) ∙ yes, lt)))
+    subst (λ (n : ℕ). NeedsMore wanted (taken_bytes t ++ q) n q) (sym e) (inr (inr (h.content, has_header t q i h, ap (is_answered wanted) (kind_is t h) ∙ asked, lt)))
 
 -- it is the header of a whole message
 whole : (t : TakenHeader) (q body rest : List ℕ) (i : IsTaken t) (h : IsHeadOf t.header.bytes t.head) → q ≡ body ++ rest → length body ≡ t.head.body_size → IsMessage (taken_bytes t ++ q) h.content body rest
@@ -101,9 +127,9 @@ whole t q body rest i h parts len = record {
 -- the message stands there
 pub has_message : (wanted : Option MessageKind) (t : TakenHeader) (q body rest : List ℕ) (message : DecoderMessage) → IsTaken t → is_answered wanted t.head.content.kind ≡ true → q ≡ body ++ rest → length body ≡ t.head.body_size
     → HeadStandsFor t.head.content body message → HasMessage wanted (taken_bytes t ++ q) (message_of message) rest
-has_message wanted t q body rest message i yes parts len stands =
+has_message wanted t q body rest message i asked parts len stands =
     let h = head_is t.header.bytes t.head i.head_is in
-    (h.content, body, whole t q body rest i h parts len, ap (is_answered wanted) (kind_is t h) ∙ yes, stands h.content h.content_is)
+    (h.content, body, whole t q body rest i h parts len, ap (is_answered wanted) (kind_is t h) ∙ asked, stands h.content h.content_is)
 
 type_from : (c : Content) → kind_of c ≡ kinds.DType → c ≡ type_content
 type_from (array_content rows names) e = absurd (by_cc e)
@@ -119,17 +145,17 @@ type_from type_content e = refl
 -- no type stands in its body
 no_type : (wanted : Option MessageKind) (t : TakenHeader) (q body rest : List ℕ) → IsTaken t → is_answered wanted t.head.content.kind ≡ true → q ≡ body ++ rest → length body ≡ t.head.body_size
     → t.head.content.kind ≡ kinds.DType → ((u : Term) → IsTypeIn body u → ⊥) → HasNoType wanted (taken_bytes t ++ q)
-no_type wanted t q body rest i yes parts len kind none =
+no_type wanted t q body rest i asked parts len kind none =
     let h = head_is t.header.bytes t.head i.head_is in
     let m = whole t q body rest i h parts len in
     let is : h.content ≡ type_content = type_from h.content (kind_is t h ∙ kind) in
-    (body, rest, subst (λ (c : Content). IsMessage (taken_bytes t ++ q) c body rest) is m, ap (is_answered wanted) (sym kind) ∙ yes, none)
+    (body, rest, subst (λ (c : Content). IsMessage (taken_bytes t ++ q) c body rest) is m, ap (is_answered wanted) (sym kind) ∙ asked, none)
 
 pub stops_by_type : (wanted : Option MessageKind) (t : TakenHeader) (q body rest : List ℕ) (e f : IpcError) → IsTaken t → is_answered wanted t.head.content.kind ≡ true → q ≡ body ++ rest → length body ≡ t.head.body_size
     → NoTypeBy t.head.content body f → e ≡ f → StopsBy wanted (taken_bytes t ++ q) e
-stops_by_type wanted t q body rest e f i yes parts len (inl memory) same = inl (same ∙ memory)
-stops_by_type wanted t q body rest e f i yes parts len (inr no) same =
-    inr (subst (IsFlawed wanted (taken_bytes t ++ q)) (sym (same ∙ no.0)) (no_type wanted t q body rest i yes parts len no.1 no.2))
+stops_by_type wanted t q body rest e f i asked parts len (inl memory) same = inl (same ∙ memory)
+stops_by_type wanted t q body rest e f i asked parts len (inr other) same =
+    inr (subst (IsFlawed wanted (taken_bytes t ++ q)) (sym (same ∙ other.0)) (no_type wanted t q body rest i asked parts len other.1 other.2))
 
 -- ---- messages
 

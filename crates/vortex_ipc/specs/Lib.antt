@@ -3,4 +3,5 @@ pub mod Queue
 pub mod Decoding
 pub mod Decoder
 pub mod Reader
+pub mod Cutting
 pub mod inner

@@ -103,6 +103,7 @@ impl MessageDecoder {
     }
 
     /// Reads the next message, where a kind is wanted or any.
+    #[tactic(auto, using(crate::proofs::Steps::reads_next, crate::proofs::Steps::fails_by))]
     pub(crate) fn read_wanted(
         &mut self,
         alloc: Global,
@@ -115,13 +116,18 @@ impl MessageDecoder {
         if let Begun::Failed = &begun {
             return Err(IpcError::Failed);
         }
-        let (begun, poll) = step(alloc, begun, bytes, wanted)?;
-        self.begun = begun;
-        Ok(poll)
+        match step(alloc, begun, bytes, wanted) {
+            Ok((begun, poll)) => {
+                self.begun = begun;
+                Ok(poll)
+            }
+            Err(error) => Err(error),
+        }
     }
 }
 
 /// Takes what stands there of the present message, and answers.
+#[tactic(auto, using(crate::proofs::TakenLemmas::cut_header, crate::proofs::TakenLemmas::cut_length, crate::proofs::TakenLemmas::stops_early))]
 fn step(
     alloc: Global,
     begun: Begun,
@@ -136,17 +142,19 @@ fn step(
     ensures stopped { IfErr result (λ e.
         StopsBy wanted (begun_bytes begun ++ bytes.old) e × HasLost bytes.old bytes.new) }
 {
-    match take_front(alloc, begun, bytes)? {
-        Begun::Header(taken) => take_body(alloc, taken, bytes, wanted),
-        Begun::Length(prefix) => {
+    match take_front(alloc, begun, bytes) {
+        Ok(Begun::Header(taken)) => take_body(alloc, taken, bytes, wanted),
+        Ok(Begun::Length(prefix)) => {
             let size = header_size(prefix.as_slice());
             Ok((Begun::Length(prefix), PollRead::NeedMore(size)))
         }
-        begun => Ok((begun, PollRead::NeedMore(4))),
+        Ok(begun) => Ok((begun, PollRead::NeedMore(4))),
+        Err(error) => Err(error),
     }
 }
 
 /// Takes the length and the header, as far as they stand there.
+#[tactic(auto, using(crate::proofs::QueueLemmas::lost_more))]
 fn take_front(alloc: Global, begun: Begun, bytes: &mut BytesQueue) -> Result<Begun, IpcError>
     requires begun { IsBegun begun }
     requires going { has_failed begun ≡ false }
@@ -162,7 +170,9 @@ fn take_front(alloc: Global, begun: Begun, bytes: &mut BytesQueue) -> Result<Beg
             if bytes.len() < 4 {
                 return Ok(Begun::Nothing);
             }
-            let prefix = bytes.take(alloc, 4)?;
+            let Ok(prefix) = bytes.take(alloc, 4) else {
+                return Err(IpcError::OutOfMemory);
+            };
             take_header(alloc, prefix, bytes)
         }
         Begun::Length(prefix) => take_header(alloc, prefix, bytes),
@@ -183,6 +193,7 @@ fn header_size(prefix: &[u8]) -> usize
 }
 
 /// Takes the header behind its length, where it stands there.
+#[tactic(auto, using(crate::proofs::TakenLemmas::none_taken, crate::proofs::TakenLemmas::is_taken, crate::proofs::TakenLemmas::taken_parts))]
 fn take_header(
     alloc: Global,
     prefix: ByteBuffer,
@@ -199,7 +210,9 @@ fn take_header(
     if bytes.len() < size {
         return Ok(Begun::Length(prefix));
     }
-    let header = bytes.take(alloc, size)?;
+    let Ok(header) = bytes.take(alloc, size) else {
+        return Err(IpcError::OutOfMemory);
+    };
     match read_header(header.as_slice()) {
         Ok(head) => Ok(Begun::Header(TakenHeader {
             prefix,
@@ -224,6 +237,7 @@ fn is_answered(wanted: Option<MessageKind>, kind: MessageKind) -> bool
 }
 
 /// Takes the body behind a header, where it stands there and the message is answered.
+#[tactic(auto, using(crate::proofs::TakenLemmas::other_kind, crate::proofs::TakenLemmas::cut_body, crate::proofs::TakenLemmas::has_message, crate::proofs::TakenLemmas::stops_by_type, crate::proofs::QueueLemmas::lost_none, crate::proofs::QueueLemmas::lost_taken))]
 fn take_body(
     alloc: Global,
     taken: TakenHeader,
@@ -247,12 +261,17 @@ fn take_body(
     if bytes.len() < size {
         return Ok((Begun::Header(taken), PollRead::NeedMore(size)));
     }
-    let body = bytes.take(alloc, size)?;
-    let message = message_of(alloc, &head, body)?;
-    Ok((Begun::Nothing, PollRead::Some(message)))
+    let Ok(body) = bytes.take(alloc, size) else {
+        return Err(IpcError::OutOfMemory);
+    };
+    match message_of(alloc, &head, body) {
+        Ok(message) => Ok((Begun::Nothing, PollRead::Some(message))),
+        Err(error) => Err(error),
+    }
 }
 
 /// The message of this body.
+#[tactic(auto, using(crate::proofs::TakenLemmas::buffer_stands, crate::proofs::TakenLemmas::type_stands))]
 fn message_of(alloc: Global, head: &Head, body: ByteBuffer) -> Result<DecoderMessage, IpcError>
     requires { is_answered None head.now.content.kind ≡ true }
     ensures message { IfOk result (λ m. HeadStandsFor head.now.content body.bytes m) }
@@ -264,7 +283,10 @@ fn message_of(alloc: Global, head: &Head, body: ByteBuffer) -> Result<DecoderMes
             let alignment = Alignment::from_exponent(head.content.exponent);
             Ok(DecoderMessage::Buffer(body.with_alignment(alignment)))
         }
-        MessageKind::DType => Ok(DecoderMessage::DType(read_dtype(alloc, body)?)),
+        MessageKind::DType => match read_dtype(alloc, body) {
+            Ok(dtype) => Ok(DecoderMessage::DType(dtype)),
+            Err(error) => Err(error),
+        },
     }
 }
 

@@ -4,6 +4,7 @@
 mod buf_reader;
 mod decoder;
 mod header;
+mod laws;
 mod message;
 mod queue;
 mod read_state;
@@ -11,6 +12,7 @@ mod sync_reader;
 
 pub use buf_reader::BufMessageReader;
 pub use decoder::MessageDecoder;
+pub use laws::{any_cutting, one_outcome};
 pub use message::{DecoderMessage, PollRead};
 pub use queue::BytesQueue;
 pub use read_state::ReadState;

@@ -1,6 +1,6 @@
 //! Bytes that wait to be read.
 
-ghost use Rattle.std.specs.Prelude.{◌≡◌, ◌≤◌, [], ◌++◌, length, drop, slice_range, IfOk, IfErr, OnOk, OnErr, MatchResult};
+ghost use Rattle.std.specs.Prelude.{◌≡◌, ◌+◌, ◌≤◌, [], ◌++◌, length, drop, slice_range, IfOk, IfErr, OnOk, OnErr, MatchResult};
 ghost use Rattle.vortex_ipc.specs.Queue.{HasLost};
 
 use std::alloc::Global;
@@ -74,6 +74,7 @@ impl BytesQueue {
     /// Takes the first `count` bytes.
     ///
     /// Where memory runs out a prefix of the bytes may be lost.
+    #[tactic(auto, using(crate::proofs::QueueLemmas::lost_nil, crate::proofs::QueueLemmas::queue_taken, crate::proofs::QueueLemmas::part_len))]
     pub(crate) fn take(&mut self, alloc: Global, count: usize) -> Result<ByteBuffer, IpcError>
         requires { count ≤ length self.old }
         ensures parts { IfOk result (λ b. self.old ≡ b.bytes ++ self.new) }
@@ -81,17 +82,59 @@ impl BytesQueue {
         ensures memory { IfErr result (λ e.
             (e ≡ IpcError.OutOfMemory) × HasLost self.old self.new) }
     {
-        if self.piece.len() - self.place < count {
-            let pushed = mem::replace(&mut self.pushed, Vec::new(alloc));
-            let place = mem::replace(&mut self.place, self.piece.len());
-            self.piece = joined(alloc, &self.piece, place, pushed)?;
-            self.place = 0;
-        }
-        let end = self.place + count;
-        let taken = part(alloc, &self.piece, self.place, end)?;
+        let piece = mem::replace(&mut self.piece, ByteBuffer::empty());
+        let place = mem::replace(&mut self.place, 0);
+        let pushed = mem::replace(&mut self.pushed, Vec::new(alloc));
+        let Ok(parts) = gathered(alloc, piece, place, pushed, count) else {
+            return Err(IpcError::OutOfMemory);
+        };
+        let end = parts.place + count;
+        let Ok(taken) = part(alloc, &parts.piece, parts.place, end) else {
+            return Err(IpcError::OutOfMemory);
+        };
+        self.piece = parts.piece;
         self.place = end;
+        self.pushed = parts.pushed;
         Ok(taken)
     }
+}
+
+/// The parts of a queue.
+#[derive(Drop)]
+struct Parts {
+    piece: ByteBuffer,
+    place: usize,
+    pushed: Vec<u8>,
+}
+
+/// The same bytes, so many of which lie in the first piece.
+#[tactic(auto, using(crate::proofs::QueueLemmas::no_pushed))]
+fn gathered(
+    alloc: Global,
+    piece: ByteBuffer,
+    place: usize,
+    pushed: Vec<u8>,
+    count: usize,
+) -> Result<Parts, IpcError>
+    requires place { place ≤ length piece.bytes }
+    requires count { count ≤ length (drop place piece.bytes ++ pushed.items) }
+    ensures same { IfOk result (λ p. drop place piece.bytes ++ pushed.items
+        ≡ drop p.place p.piece.bytes ++ p.pushed.items) }
+    ensures front { IfOk result (λ p. p.place + count ≤ length p.piece.bytes) }
+{
+    if count <= piece.len() - place {
+        return Ok(Parts {
+            piece,
+            place,
+            pushed,
+        });
+    }
+    let piece = joined(alloc, &piece, place, pushed)?;
+    Ok(Parts {
+        piece,
+        place: 0,
+        pushed: Vec::new(alloc),
+    })
 }
 
 /// The bytes of a buffer from `place` on, and others behind them, as one buffer.

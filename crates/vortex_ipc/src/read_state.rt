@@ -1,10 +1,10 @@
 //! Messages that are read from a source, which is lent at each call.
 
-ghost use Rattle.std.specs.Prelude.{◌≡◌, ◌≤◌, false, None, Some, Err, [], length, min, take, IfOk, MatchResult};
-ghost use Rattle.std.specs.Io.KnownBytes.{ReadConsumes};
+ghost use Rattle.std.specs.Prelude.{◌≡◌, ◌≤◌, false, None, Some, Err, [], length, min, IfOk, MatchResult};
 ghost use Rattle.vortex_stream.specs.Counts.{counts_of_read, raised_by};
 ghost use Rattle.vortex_ipc.specs.Decoder.{fresh};
 ghost use Rattle.vortex_ipc.specs.Reader.{SourceReads, is_done};
+ghost use Rattle.vortex_ipc.specs.inner.Pieces.{GavePiece};
 ghost use Rattle.vortex_ipc.specs.inner.Came.{Came, IsReady, at_end};
 
 use crate::decoder::MessageDecoder;
@@ -35,7 +35,8 @@ pub struct ReadState {
 impl Model for ReadState {
     ghost use Rattle.std.specs.Prelude.{◌≡◌, ◌≤◌, false, length};
     ghost use Rattle.vortex_ipc.specs.Reader.{ReaderState};
-    ghost use Rattle.vortex_ipc.specs.inner.Came.{IsReady};
+    ghost use Rattle.vortex_ipc.specs.inner.Pieces.{GavePiece};
+ghost use Rattle.vortex_ipc.specs.inner.Came.{IsReady};
 
     ghost Value = { ReaderState };
 
@@ -141,8 +142,9 @@ fn read_piece<S: Source>(
     piece: &mut [u8],
     missing: usize,
 ) -> Result<usize, SourceFailed>
-    ensures bytes { ReadConsumes (S.rest source.old) (S.rest source.new) result
-        (take (min missing (length piece.old)) piece.new) }
+    ensures bytes { GavePiece (S.rest source.old) (S.rest source.new) piece.new
+        (min missing (length piece.old)) result }
+    ensures len { length piece.new ≡ length piece.old }
     ensures bound { IfOk result (λ count. count ≤ min missing (length piece.old)) }
     ensures counted { S.counts source.new ≡ raised_by (S.counts source.old)
         (counts_of_read result (min missing (length piece.old))) }

@@ -1,5 +1,5 @@
 -- What a decoder keeps of its present message, and what its steps answer.
-use Rattle.std.specs.Prelude.{◌≡◌, ◌⊎◌, Bool, true, false, ℕ, ◌<◌, List, [], ◌++◌, length, Option, Some}
+use Rattle.std.specs.Prelude.{⊤, ◌≡◌, ◌⊎◌, Bool, true, false, ℕ, ◌<◌, List, [], ◌++◌, length, Option, Some}
 use Rattle.std.specs.Option.{option_map}
 use Rattle.vortex_buffer.specs.Buffer.{Buffer}
 use Rattle.vortex_terms.specs.Term.{Term}

@@ -1,5 +1,5 @@
 -- What a decoder keeps of a header.
-use Rattle.std.specs.Prelude.{ℕ, List, Option, Some}
+use Rattle.std.specs.Prelude.{⊤, ℕ, List, Option, Some}
 use Rattle.std.specs.Option.{option_map}
 use Rattle.vortex_flat.specs.Targets.{number_field, vector_field, or_empty}
 use Rattle.vortex_prelude.specs.Absent.{or_zero}
