@@ -83,7 +83,7 @@ header_append bytes content size rest more h = record {
 
 -- ---- messages
 
-regroup : (a b c d : List ℕ) → a ++ b ++ c ++ d ≡ a ++ (b ++ (c ++ d))
+pub regroup : (a b c d : List ℕ) → a ++ b ++ c ++ d ≡ a ++ (b ++ (c ++ d))
 regroup a b c d = simp append_assoc
 
 -- the header of a message

@@ -5,3 +5,5 @@ pub mod Fronts
 pub mod Outcomes
 pub mod Underway
 pub mod Steps
+pub mod BufLemmas
+pub mod States

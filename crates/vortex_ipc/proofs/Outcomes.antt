@@ -1,8 +1,8 @@
 -- Bytes come to one outcome, which stays what it is when more bytes follow.
-use Rattle.std.proofs.Common.{◌≡◌, ◌⊎◌, inl, inr, ℕ, ◌+◌, ◌<◌, ◌≤◌, Bool, true, false, cond, leb, List, [], ◌∷◌, ◌++◌, length, take, drop, Option, Some, None, refl, sym, ap, subst, ◌∙◌, arith}
+use Rattle.std.proofs.Common.{◌≡◌, ◌⊎◌, inl, inr, ℕ, ◌+◌, ◌<◌, ◌≤◌, Bool, true, false, cond, leb, List, [], ◌∷◌, ◌++◌, length, take, drop, Option, Some, None, refl, sym, ap, subst, ◌∙◌, arith, append_assoc}
 use Rattle.std.proofs.Math.Seq.{take-append_seam, drop-append_seam}
-use Rattle.std.proofs.lemmas.Bool.{le-leb, lt-leb}
-use Rattle.std.proofs.lemmas.List.{length-append}
+use Rattle.std.proofs.lemmas.Bool.{le-leb, leb-false, leb-true, lt-leb}
+use Rattle.std.proofs.lemmas.List.{append_cancel_left, length-append, length-take-le, take-append-drop, take-append-le}
 use Rattle.vortex_terms.specs.Term.{Term}
 use Rattle.vortex_schema.specs.TypeAt.{IsTypeIn}
 use Rattle.vortex_schema.proofs.InPlace.{one_in}
@@ -17,8 +17,9 @@ use Rattle.vortex_stream.specs.declared.error.IpcError.{IpcError}
 use Rattle.vortex_stream.specs.declared.error.IpcError.TheVariants as error
 use Rattle.vortex_ipc.specs.Message.{Message, StandsFor, buffer_message, type_message}
 use Rattle.vortex_ipc.specs.Decoding.{Outcome, more, refused, found, Decodes, BeginsWithLength, BeginsWithHeader, HasHeader, HasNoHeader, HasOtherKind, HasNoType, HasMessage, NeedsMore, IsFlawed, is_answered}
+use Rattle.vortex_ipc.specs.Reader.{IsCut}
 use Rattle.vortex_ipc.specs.Cutting.{behind, IsSettled, IsLast, DecodesAll}
-use Rattle.vortex_ipc.proofs.Fronts.{begin_append, header_append, message_header}
+use Rattle.vortex_ipc.proofs.Fronts.{begin_append, header_append, length_append, message_header, regroup, saying}
 
 -- ---- stages
 
@@ -176,6 +177,116 @@ pub settled : (w : Option MessageKind) (b others : List ℕ) (o : Outcome) → I
 settled w b others (more size there) s h = absurd s
 settled w b others (refused e) s h = refused_append w b others e h
 settled w b others (found m rest) s h = (h.0, h.1, message_append b h.0 h.1 rest others h.2, h.3, h.4)
+
+-- more bytes that leave a part cut
+pub grows : (w : Option MessageKind) (b there others : List ℕ) (size : ℕ) → NeedsMore w b size there → length (there ++ others) < size → NeedsMore w (b ++ others) size (there ++ others)
+grows w b there others size (inl n) lt = inl (ap (λ (l : List ℕ). l ++ others) n.0, n.1, lt)
+grows w b there others size (inr (inl n)) lt = inr (inl (length_append b size there others n.0, lt))
+grows w b there others size (inr (inr n)) lt = inr (inr (n.0, header_append b n.0 size there others n.1, n.2, lt))
+
+-- ---- some outcome
+
+-- what is met stands there
+abbrev IsStage : Option MessageKind → List ℕ → Stage → Type 0
+IsStage w b (needs size there) = NeedsMore w b size there
+IsStage w b (refuses e) = IsFlawed w b e
+IsStage w b (whole c body rest) = IsMessage b c body rest × (is_answered w (kind_of c) ≡ true)
+
+by_test : (P : Stage → Type 0) (t : Bool) (x y : Stage) → (t ≡ true → P x) → (t ≡ false → P y) → P (cond t x y)
+by_test P true x y f g = f refl
+by_test P false x y f g = g refl
+
+message_from : (b : List ℕ) (c : Content) (n : ℕ) (rest : List ℕ) → HasHeader b c n rest → n ≤ length rest → IsMessage b c (take n rest) (drop n rest)
+message_from b c n rest h le = record {
+  prefix = h.begins.prefix;
+  header = h.header;
+  parts = h.begins.parts ∙ ap (λ (l : List ℕ). h.begins.prefix ++ (h.header ++ l)) (sym (take-append-drop n rest)) ∙ sym (regroup h.begins.prefix h.header (take n rest) (drop n rest));
+  prefix_len = h.begins.prefix_len;
+  header_len = h.begins.size_is;
+  header_is = h.header_is ∙ ap (λ k. Some (saying c k)) (sym (length-take-le n rest le));
+}
+
+stage_body : (w : Option MessageKind) (b : List ℕ) (c : Content) (n : ℕ) (rest : List ℕ) → HasHeader b c n rest → IsStage w b (of_body w c n rest)
+stage_body w b c n rest h = by_test (IsStage w b) (is_answered w (kind_of c)) _ _
+    (λ asked. by_test (IsStage w b) (leb n (length rest)) _ _ (λ t. (message_from b c n rest h (leb-true n (length rest) t), asked)) (λ t. inr (inr (c, h, asked, leb-false n (length rest) t))))
+    (λ other. (c, n, rest, h, refl, other))
+
+stage_header : (w : Option MessageKind) (b header rest : List ℕ) (o : Option Header) → BeginsWithHeader b header rest → header_of header ≡ o → IsStage w b (of_header w o rest)
+stage_header w b header rest None h e = (header, rest, h, e)
+stage_header w b header rest (Some x) h e = stage_body w b x.content x.body_size rest (record { header = header; begins = h; header_is = e })
+
+header_from : (b : List ℕ) (size : ℕ) (rest : List ℕ) → BeginsWithLength b size rest → size ≤ length rest → BeginsWithHeader b (take size rest) (drop size rest)
+header_from b size rest h le = record {
+  prefix = h.prefix;
+  parts = h.parts ∙ ap (λ (l : List ℕ). h.prefix ++ l) (sym (take-append-drop size rest));
+  prefix_len = h.prefix_len;
+  size_is = h.size_is ∙ sym (length-take-le size rest le);
+}
+
+stage_length : (w : Option MessageKind) (b : List ℕ) (size : ℕ) (rest : List ℕ) → BeginsWithLength b size rest → IsStage w b (of_length w size rest)
+stage_length w b size rest h = by_test (IsStage w b) (leb size (length rest)) _ _
+    (λ t. stage_header w b (take size rest) (drop size rest) (header_of (take size rest)) (header_from b size rest h (leb-true size (length rest) t)) refl)
+    (λ t. inr (inl (h, leb-false size (length rest) t)))
+
+at_stage : (w : Option MessageKind) (b : List ℕ) → IsStage w b (stage_of w b)
+at_stage w b = by_test (IsStage w b) (leb 4 (length b)) _ _
+    (λ t. stage_length w b (little_endian (take 4 b)) (drop 4 b) (record { prefix = take 4 b; parts = sym (take-append-drop 4 b); prefix_len = length-take-le 4 b (leb-true 4 (length b) t); size_is = refl }))
+    (λ t. inl (refl, refl, leb-false 4 (length b) t))
+
+body_outcome : (w : Option MessageKind) (b : List ℕ) (c : Content) (body rest : List ℕ) → IsMessage b c body rest → is_answered w (kind_of c) ≡ true → ((a : Outcome) → Decodes w b a → ⊥) → ⊥
+body_outcome w b (array_content rows names) body rest m asked none = never asked
+  where
+    never : false ≡ true → ⊥
+    never e = cc
+body_outcome w b (buffer_content exponent) body rest m asked none =
+    none (found (buffer_message (record { bytes = body; exponent = exponent })) rest) (buffer_content exponent, body, m, asked, refl)
+body_outcome w b type_content body rest m asked none =
+    none (refused error.MalformedDType) (body, rest, m, asked, λ t h. none (found (type_message t) rest) (type_content, body, m, asked, (t, h, refl)))
+
+stage_outcome : (w : Option MessageKind) (b : List ℕ) (s : Stage) → IsStage w b s → ((a : Outcome) → Decodes w b a → ⊥) → ⊥
+stage_outcome w b (needs size there) h none = none (more size there) h
+stage_outcome w b (refuses e) h none = none (refused e) h
+stage_outcome w b (whole c body rest) h none = body_outcome w b c body rest h.0 h.1 none
+
+-- there is no list of bytes that comes to nothing
+pub some_outcome : (w : Option MessageKind) (b : List ℕ) → ((a : Outcome) → Decodes w b a → ⊥) → ⊥
+some_outcome w b none = stage_outcome w b (stage_of w b) (at_stage w b) none
+
+-- ---- every prefix of what is cut is cut
+
+stage_cut : (w : Option MessageKind) (front back there : List ℕ) (size : ℕ) (s : Stage) → IsStage w front s → NeedsMore w (front ++ back) size there → IsCut w front
+stage_cut w front back there size (needs n t) h k = (n, t, h)
+stage_cut w front back there size (refuses e) h k = absurd (not_more (one_outcome w (front ++ back) (more size there) (refused e) k (refused_append w front back e h)))
+  where
+    not_more : more size there ≡ refused e → ⊥
+    not_more x = cc
+stage_cut w front back there size (whole c body rest) h k = absurd (not_needs (sym (decoded_more w (front ++ back) there size k) ∙ at_message w (front ++ back) c body (rest ++ back) (message_append front c body rest back h.0) h.1))
+  where
+    not_needs : needs size there ≡ whole c body (rest ++ back) → ⊥
+    not_needs x = cc
+
+pub prefix_cut : (w : Option MessageKind) (bytes front back there : List ℕ) (size : ℕ) → NeedsMore w bytes size there → bytes ≡ front ++ back → IsCut w front
+prefix_cut w bytes front back there size n e = stage_cut w front back there size (stage_of w front) (at_stage w front) (subst (λ (l : List ℕ). NeedsMore w l size there) e n)
+
+-- the shorter of two fronts is a front of the other
+shorter : (a b x y : List ℕ) → a ++ x ≡ b ++ y → length a ≤ length b → b ≡ a ++ drop (length a) b
+shorter a b x y e le =
+    let same : a ≡ take (length a) b = sym (take-append_seam a x) ∙ ap (take (length a)) e ∙ take-append-le (length a) b y le in
+    sym (take-append-drop (length a) b) ∙ ap (λ (l : List ℕ). l ++ drop (length a) b) (sym same)
+
+-- so is each proper prefix of it with no more behind than was missing
+pub least : (w : Option MessageKind) (bytes there piece front back : List ℕ) (size : ℕ) → NeedsMore w bytes size there → length (there ++ piece) ≤ size → bytes ++ piece ≡ front ++ back → 0 < length back → IsCut w front
+least w bytes there piece front back size n le e some = by_length (leb (length front) (length bytes)) refl
+  where
+    by_length : (t : Bool) → leb (length front) (length bytes) ≡ t → IsCut w front
+    by_length true t = prefix_cut w bytes front (drop (length front) bytes) there size n (shorter front bytes back piece (sym e) (leb-true _ _ t))
+    by_length false t =
+        let lt : length bytes < length front = leb-false _ _ t in
+        let more_is : front ≡ bytes ++ drop (length bytes) front = shorter bytes front piece back e (omega (arith, lt)) in
+        let rest : piece ≡ drop (length bytes) front ++ back = append_cancel_left bytes piece (drop (length bytes) front ++ back) (e ∙ ap (λ (l : List ℕ). l ++ back) more_is ∙ append_assoc bytes (drop (length bytes) front) back) in
+        let len = ap length rest ∙ length-append (drop (length bytes) front) back in
+        let short : length (there ++ drop (length bytes) front) < size = omega (arith, le, some, len, length-append there piece, length-append there (drop (length bytes) front)) in
+        subst (IsCut w) (sym more_is) (size, there ++ drop (length bytes) front, grows w bytes there (drop (length bytes) front) size n short)
 
 -- ---- all messages
 

@@ -1,6 +1,6 @@
 -- What holds while a message is read from a source.
 use Rattle.std.proofs.Common.{◌≡◌, ◌⊎◌, inl, inr, ℕ, ◌+◌, ◌*◌, ◌<◌, ◌≤◌, Bool, true, false, cond, eqb, ltb, ◌&&◌, List, [], ◌++◌, length, take, Option, Some, None, Result, Ok, Err, refl, sym, ap, subst, ◌∙◌, arith, append_assoc, append-nil, zero, suc, ◌-◌}
-use Rattle.std.specs.Prelude.{min}
+use Rattle.std.proofs.Math.Dec.{eqb-suc-zero}
 use Rattle.std.proofs.KnownBytes.{Consumes-nil, Consumes-trans, Consumes-kept}
 use Rattle.std.proofs.lemmas.List.{length-append, length-take-le, nil_from_length}
 use Rattle.std.proofs.lemmas.Bool.{lt-ltb, ne_eqb, eq-eqb}
@@ -21,6 +21,7 @@ use Rattle.vortex_ipc.specs.Reader.{AllGave, AnswersIn, FailsIn, IsCut, ReadsMes
 use Rattle.vortex_ipc.specs.inner.Came.{Came, at_end}
 use Rattle.vortex_ipc.specs.inner.Pieces.{TookPiece}
 use Rattle.vortex_ipc.proofs.Fronts.{exact}
+use Rattle.vortex_ipc.proofs.Outcomes.{least, prefix_cut}
 
 -- ---- counts of one call after another
 
@@ -43,11 +44,11 @@ counts faults ends given reads = record { faults = faults; ends = ends; given = 
 raised_none : (c : SourceCounts) → c ≡ raised_by c (counts 0 0 0 0)
 raised_none c = rw (same_64 c.faults, same_64 c.ends, same_128 c.given, same_128 c.reads) refl
 
-twice : (c : SourceCounts) (given made faults ends more : ℕ) → raised_by (raised_by c (counts 0 0 given made)) (counts faults ends more 1) ≡ raised_by c (counts faults ends (given + more) (made + 1))
-twice c given made faults ends more = rw (more_64 c.faults 0 faults, more_64 c.ends 0 ends, more_128 c.given given more, more_128 c.reads made 1) refl
+twice : (c : SourceCounts) (given made faults ends extra : ℕ) → raised_by (raised_by c (counts 0 0 given made)) (counts faults ends extra 1) ≡ raised_by c (counts faults ends (given + extra) (made + 1))
+twice c given made faults ends extra = rw (more_64 c.faults 0 faults, more_64 c.ends 0 ends, more_128 c.given given extra, more_128 c.reads made 1) refl
 
-after_read : (before now after : SourceCounts) (given made faults ends more : ℕ) → now ≡ raised_by before (counts 0 0 given made) → after ≡ raised_by now (counts faults ends more 1) → after ≡ raised_by before (counts faults ends (given + more) (made + 1))
-after_read before now after given made faults ends more e f = f ∙ ap (λ (c : SourceCounts). raised_by c (counts faults ends more 1)) e ∙ twice before given made faults ends more
+after_read : (before now after : SourceCounts) (given made faults ends extra : ℕ) → now ≡ raised_by before (counts 0 0 given made) → after ≡ raised_by now (counts faults ends extra 1) → after ≡ raised_by before (counts faults ends (given + extra) (made + 1))
+after_read before now after given made faults ends extra e f = f ∙ ap (λ (c : SourceCounts). raised_by c (counts faults ends extra 1)) e ∙ twice before given made faults ends extra
 
 -- whether a read of so many bytes tells the end, as a number
 abbrev pub ends_of : ℕ → ℕ → ℕ
@@ -99,11 +100,18 @@ some_missing wanted before now rest left d q made given missing u = let lt = sho
 
 -- ---- ends of the loop
 
+-- each shorter front of the bytes is cut
+abbrev pub IsLeast : Option MessageKind → List ℕ → Type 0
+IsLeast wanted taken = (front back : List ℕ) → taken ≡ front ++ back → 0 < length back → IsCut wanted front
+
+cut_least : (wanted : Option MessageKind) (bytes there : List ℕ) (size : ℕ) → NeedsMore wanted bytes size there → IsLeast wanted bytes
+cut_least wanted bytes there size n front back e some = prefix_cut wanted bytes front back there size n e
+
 -- what a call comes to that counts so and took these bytes
 came : (wanted : Option MessageKind) (most : ℕ) (before after : SourceCounts) (rest left : Option (List ℕ)) (t : Taken) (faults ends given reads : ℕ) (taken : List ℕ) (answer : Option (Result DecoderMessage IpcError))
-    → t ≡ record { reads = reads; given = given; answer = answer } → after ≡ raised_by before (counts faults ends given reads) → reads ≤ most → reads ≤ given + ends + faults → length taken ≡ given → Consumes rest left taken
+    → t ≡ record { reads = reads; given = given; answer = answer } → after ≡ raised_by before (counts faults ends given reads) → reads ≤ most → reads ≤ given + ends + faults → length taken ≡ given → Consumes rest left taken → IsLeast wanted taken
     → AnswersIn wanted most (counts faults ends given reads) taken left answer → Came wanted most before after rest left t
-came wanted most before after rest left t faults ends given reads taken answer e counted few each given_is consumed answers = subst (Came wanted most before after rest left) (sym e) (record {
+came wanted most before after rest left t faults ends given reads taken answer e counted few each given_is consumed all answers = subst (Came wanted most before after rest left) (sym e) (record {
   message = record {
     call = counts faults ends given reads;
     taken = taken;
@@ -112,6 +120,7 @@ came wanted most before after rest left t faults ends given reads taken answer e
     each_gives = each;
     given_is = given_is;
     consumed = consumed;
+    least = all;
     answers = answers;
   };
   reads_are = refl;
@@ -119,8 +128,10 @@ came wanted most before after rest left t faults ends given reads taken answer e
 })
 
 end_answers : (wanted : Option MessageKind) (most given reads : ℕ) (taken : List ℕ) (left : Option (List ℕ)) → length taken ≡ given → IsAtEnd left → IsCut wanted taken → AnswersIn wanted most (counts 0 1 given reads) taken left (at_end given)
-end_answers wanted most zero reads taken left len at cut = (refl, refl, at, nil_from_length taken len)
-end_answers wanted most (suc n) reads taken left len at cut = ((refl, refl, at), omega (arith, len), cut)
+end_answers wanted most zero reads taken left len at cut = ((refl, refl, at), nil_from_length taken len)
+end_answers wanted most (suc n) reads taken left len at cut =
+    let some : at_end (suc n) ≡ Some (Err error.UnexpectedEnd) = ap (λ t. cond t None (Some (Err error.UnexpectedEnd))) (eqb-suc-zero n) in
+    subst (AnswersIn wanted most (counts 0 1 (suc n) reads) taken left) (sym some) ((refl, refl, at), omega (arith, len), cut)
 
 -- the end was told
 pub came_end : (wanted : Option MessageKind) (most : ℕ) (before now after : SourceCounts) (rest left next : Option (List ℕ)) (d : DecoderState) (q piece : List ℕ) (made given missing count room : ℕ) (t : Taken)
@@ -133,7 +144,7 @@ came_end wanted most before now after rest left next d q piece made given missin
     let counts_are : after ≡ raised_by before (counts 0 1 given (made + 1)) = after_read before now after given made 0 1 0 u.counted one ∙ ap (λ n. raised_by before (counts 0 1 n (made + 1))) all in
     let joined : Consumes rest next ((d.begun ++ q) ++ take count piece) = Consumes-trans rest left next (d.begun ++ q) (take count piece) u.taken took.0 in
     let taken : Consumes rest next (d.begun ++ q) = subst (Consumes rest next) (ap (λ n. (d.begun ++ q) ++ take n piece) none ∙ append-nil (d.begun ++ q)) joined in
-    came wanted most before after rest next t 0 1 given (made + 1) (d.begun ++ q) (at_end given) e counts_are (omega (arith, lt)) (omega (arith, each)) u.given_is taken
+    came wanted most before after rest next t 0 1 given (made + 1) (d.begun ++ q) (at_end given) e counts_are (omega (arith, lt)) (omega (arith, each)) u.given_is taken (cut_least wanted (d.begun ++ q) q u.size u.needs)
     (end_answers wanted most given (made + 1) (d.begun ++ q) next u.given_is (took.1 none long) (u.size, q, u.needs))
 
 -- a read failed
@@ -144,33 +155,35 @@ came_fault wanted most before now after rest left next d q made given missing t 
     let each = u.each in
     let all : given + 0 ≡ given = omega arith in
     let counts_are : after ≡ raised_by before (counts 1 0 given (made + 1)) = after_read before now after given made 1 0 0 u.counted counted ∙ ap (λ n. raised_by before (counts 1 0 n (made + 1))) all in
-    came wanted most before after rest next t 1 0 given (made + 1) (d.begun ++ q) (Some (Err error.ReadFault)) e counts_are (omega (arith, lt)) (omega (arith, each)) u.given_is (Consumes-kept rest left next (d.begun ++ q) u.taken kept)
-    (refl, refl, u.size, q, u.needs)
+    came wanted most before after rest next t 1 0 given (made + 1) (d.begun ++ q) (Some (Err error.ReadFault)) e counts_are (omega (arith, lt)) (omega (arith, each)) u.given_is (Consumes-kept rest left next (d.begun ++ q) u.taken kept) (cut_least wanted (d.begun ++ q) q u.size u.needs)
+    (refl, refl, (u.size, q, u.needs))
 
 -- as many reads were made as may be
 pub came_limit : (wanted : Option MessageKind) (most : ℕ) (before now : SourceCounts) (rest left : Option (List ℕ)) (d : DecoderState) (q : List ℕ) (made given missing : ℕ) (t : Taken)
     → Underway wanted before now rest left d q made given missing → made ≡ most → t ≡ record { reads = most; given = given; answer = Some (Err error.ReadLimit) } → Came wanted most before now rest left t
 came_limit wanted most before now rest left d q made given missing t u all e =
     let each = u.each in
-    came wanted most before now rest left t 0 0 given most (d.begun ++ q) (Some (Err error.ReadLimit)) e (u.counted ∙ ap (λ n. raised_by before (counts 0 0 given n)) all) (omega arith) (omega (arith, each, all)) u.given_is u.taken
-    ((refl, refl), refl, u.size, q, u.needs)
+    came wanted most before now rest left t 0 0 given most (d.begun ++ q) (Some (Err error.ReadLimit)) e (u.counted ∙ ap (λ n. raised_by before (counts 0 0 given n)) all) (omega arith) (omega (arith, each, all)) u.given_is u.taken (cut_least wanted (d.begun ++ q) q u.size u.needs)
+    ((refl, refl), refl, (u.size, q, u.needs))
 
 -- ---- a read that gave some bytes
 
 -- So many reads gave so many bytes, and these are all.
-pub record GaveAll (before after : SourceCounts) (rest next : Option (List ℕ)) (all : List ℕ) (reads given : ℕ) : Type 0 where
+pub record GaveAll (wanted : Option MessageKind) (before after : SourceCounts) (rest next : Option (List ℕ)) (all : List ℕ) (reads given : ℕ) : Type 0 where
   pub counted : after ≡ raised_by before (counts 0 0 given reads)
   pub each : reads ≤ given
   pub given_is : length all ≡ given
   pub small : given ≤ 65536 * reads
   pub taken : Consumes rest next all
+  pub least : IsLeast wanted all
 
 pub gave : (wanted : Option MessageKind) (before now after : SourceCounts) (rest left next : Option (List ℕ)) (d : DecoderState) (q piece : List ℕ) (made given missing count room : ℕ)
-    → Underway wanted before now rest left d q made given missing → (count ≡ 0 → ⊥) → count ≤ length piece → count ≤ 65536 → after ≡ raised_by now (counts 0 (ends_of count room) count 1) → TookPiece left next piece room count
-    → GaveAll before after rest next (d.begun ++ (q ++ take count piece)) (made + 1) (given + count)
-gave wanted before now after rest left next d q piece made given missing count room u some le few counted took =
+    → Underway wanted before now rest left d q made given missing → (count ≡ 0 → ⊥) → count ≤ length piece → count ≤ 65536 → count ≤ missing → after ≡ raised_by now (counts 0 (ends_of count room) count 1) → TookPiece left next piece room count
+    → GaveAll wanted before after rest next (d.begun ++ (q ++ take count piece)) (made + 1) (given + count)
+gave wanted before now after rest left next d q piece made given missing count room u some le few missed counted took =
     let each = u.each in
     let small = u.small in
+    let size = u.missing_is in
     let same : (d.begun ++ q) ++ take count piece ≡ d.begun ++ (q ++ take count piece) = append_assoc d.begun q (take count piece) in
     let len : length (d.begun ++ (q ++ take count piece)) ≡ given + count = ap length (sym same) ∙ length-append (d.begun ++ q) (take count piece) ∙ ap (λ n. n + length (take count piece)) u.given_is ∙ ap (λ n. given + n) (length-take-le count piece le) in
     record {
@@ -179,18 +192,19 @@ gave wanted before now after rest left next d q piece made given missing count r
       given_is = len;
       small = omega (arith, small, few);
       taken = subst (Consumes rest next) same (Consumes-trans rest left next (d.begun ++ q) (take count piece) u.taken took.0);
+      least = λ front back e long. least wanted (d.begun ++ q) q (take count piece) front back u.size u.needs (omega (arith, missed, size, length-append q (take count piece), length-take-le count piece le)) (same ∙ e) long;
     }
 
 -- it failed behind these bytes
 came_failed : (wanted : Option MessageKind) (most : ℕ) (before after : SourceCounts) (rest next : Option (List ℕ)) (all : List ℕ) (reads given : ℕ) (t : Taken) (e : IpcError)
-    → GaveAll before after rest next all reads given → reads ≤ most → t ≡ record { reads = reads; given = given; answer = Some (Err e) } → FailsIn wanted most (counts 0 0 given reads) all next e → Came wanted most before after rest next t
+    → GaveAll wanted before after rest next all reads given → reads ≤ most → t ≡ record { reads = reads; given = given; answer = Some (Err e) } → FailsIn wanted most (counts 0 0 given reads) all next e → Came wanted most before after rest next t
 came_failed wanted most before after rest next all reads given t e g few is fails =
     let each = g.each in
-    came wanted most before after rest next t 0 0 given reads all (Some (Err e)) is g.counted few (omega (arith, each)) g.given_is g.taken fails
+    came wanted most before after rest next t 0 0 given reads all (Some (Err e)) is g.counted few (omega (arith, each)) g.given_is g.taken g.least fails
 
 -- for lack of memory
 pub came_memory : (wanted : Option MessageKind) (most : ℕ) (before after : SourceCounts) (rest next : Option (List ℕ)) (all : List ℕ) (reads given : ℕ) (t : Taken) (e : IpcError)
-    → GaveAll before after rest next all reads given → reads ≤ most → t ≡ record { reads = reads; given = given; answer = Some (Err e) } → e ≡ error.OutOfMemory → Came wanted most before after rest next t
+    → GaveAll wanted before after rest next all reads given → reads ≤ most → t ≡ record { reads = reads; given = given; answer = Some (Err e) } → e ≡ error.OutOfMemory → Came wanted most before after rest next t
 came_memory wanted most before after rest next all reads given t e g few is memory =
     came_failed wanted most before after rest next all reads given t e g few is (subst (FailsIn wanted most (counts 0 0 given reads) all next) (sym memory) (refl, refl))
 
@@ -214,7 +228,7 @@ decoder_fails wanted most call old new before after left error.TooLarge g going 
 
 -- as the decoder did
 pub came_refused : (wanted : Option MessageKind) (most : ℕ) (before after : SourceCounts) (rest next : Option (List ℕ)) (old new : DecoderState) (q left : List ℕ) (reads given : ℕ) (t : Taken) (e : IpcError)
-    → GaveAll before after rest next (old.begun ++ q) reads given → reads ≤ most → old.failed ≡ false → FailsBy wanted old q e new left → t ≡ record { reads = reads; given = given; answer = Some (Err e) } → Came wanted most before after rest next t
+    → GaveAll wanted before after rest next (old.begun ++ q) reads given → reads ≤ most → old.failed ≡ false → FailsBy wanted old q e new left → t ≡ record { reads = reads; given = given; answer = Some (Err e) } → Came wanted most before after rest next t
 came_refused wanted most before after rest next old new q left reads given t e g few going h is =
     came_failed wanted most before after rest next (old.begun ++ q) reads given t e g few is (decoder_fails wanted most (counts 0 0 given reads) old new q left next e (refl, refl) going h)
 
@@ -228,15 +242,15 @@ nothing_behind wanted before now rest left d q piece made given missing count me
 
 -- the message is all of the bytes
 pub came_message : (wanted : Option MessageKind) (most : ℕ) (before after : SourceCounts) (rest next : Option (List ℕ)) (all behind : List ℕ) (reads given : ℕ) (message : DecoderMessage)
-    → GaveAll before after rest next all reads given → reads ≤ most → HasMessage wanted all (message_of message) behind → behind ≡ [] → Came wanted most before after rest next (record { reads = reads; given = given; answer = Some (Ok message) })
+    → GaveAll wanted before after rest next all reads given → reads ≤ most → HasMessage wanted all (message_of message) behind → behind ≡ [] → Came wanted most before after rest next (record { reads = reads; given = given; answer = Some (Ok message) })
 came_message wanted most before after rest next all behind reads given message g few h none =
     let each = g.each in
-    came wanted most before after rest next (record { reads = reads; given = given; answer = Some (Ok message) }) 0 0 given reads all (Some (Ok message)) refl g.counted few (omega (arith, each)) g.given_is g.taken
+    came wanted most before after rest next (record { reads = reads; given = given; answer = Some (Ok message) }) 0 0 given reads all (Some (Ok message)) refl g.counted few (omega (arith, each)) g.given_is g.taken g.least
     ((refl, refl), subst (HasMessage wanted all (message_of message)) none h)
 
 -- more is missing
 pub underway_more : (wanted : Option MessageKind) (before after : SourceCounts) (rest next : Option (List ℕ)) (old new : DecoderState) (q left : List ℕ) (reads given size missing : ℕ)
-    → GaveAll before after rest next (old.begun ++ q) reads given → ReadsNext wanted old q (Ok (poll.NeedMore size)) new left → missing ≡ size - length left → Underway wanted before after rest next new left reads given missing
+    → GaveAll wanted before after rest next (old.begun ++ q) reads given → ReadsNext wanted old q (Ok (poll.NeedMore size)) new left → missing ≡ size - length left → Underway wanted before after rest next new left reads given missing
 underway_more wanted before after rest next old new q left reads given size missing g h e =
     let same : new.begun ++ left ≡ old.begun ++ q = h.3 in
     let needs : NeedsMore wanted (new.begun ++ left) size left = subst (λ (l : List ℕ). NeedsMore wanted l size left) (sym same) h.1 in

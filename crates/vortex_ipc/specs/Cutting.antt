@@ -4,7 +4,7 @@ use Rattle.vortex_stream.specs.declared.kind.MessageKind.{MessageKind}
 use Rattle.vortex_ipc.specs.Message.{Message}
 use Rattle.vortex_ipc.specs.Decoding.{Outcome, more, refused, found, Decodes}
 
--- the same outcome, with more bytes behind it
+-- the same message or refusal, with more bytes behind it
 abbrev pub behind : Outcome → List ℕ → Outcome
 behind (more size there) others = more size there
 behind (refused e) others = refused e

@@ -1,5 +1,5 @@
 -- What the readers of messages do in one call.
-use Rattle.std.specs.Prelude.{⊤, ◌≡◌, ◌⊎◌, Bool, true, false, ℕ, ◌+◌, ◌-◌, ◌<◌, ◌≤◌, List, [], length, Option, Some, None, Result, Ok, Err}
+use Rattle.std.specs.Prelude.{⊤, ◌≡◌, ◌⊎◌, Bool, true, false, ℕ, ◌+◌, ◌-◌, ◌<◌, ◌≤◌, List, [], ◌++◌, length, Option, Some, None, Result, Ok, Err}
 use Rattle.std.specs.Io.KnownBytes.{Consumes, IsAtEnd}
 use Rattle.vortex_stream.specs.Counts.{raised_128, raised_by}
 use Rattle.vortex_stream.specs.declared.counts.SourceCounts.{SourceCounts}
@@ -116,8 +116,9 @@ AnswersIn wanted most call taken left (Some (Ok message)) =
     AllGave call × Decodes wanted taken (found (message_of message) [])
 AnswersIn wanted most call taken left (Some (Err e)) = FailsIn wanted most call taken left e
 
--- One call made so many reads at most, each of which gave a byte, told the end or failed. By itself
--- it counts so, was given these bytes, and answered so.
+-- One call made so many reads at most, and no more than it was given bytes, an end or a fault. By
+-- itself it counts so, was given these bytes, and answered so. It took none that its answer does not
+-- need: each shorter front of them is cut.
 pub record ReadsMessage (wanted : Option MessageKind) (most : ℕ) (before after : SourceCounts)
     (rest left : Option (List ℕ)) (answer : Option (Result DecoderMessage IpcError)) : Type 0 where
   pub call : SourceCounts
@@ -127,6 +128,7 @@ pub record ReadsMessage (wanted : Option MessageKind) (most : ℕ) (before after
   pub each_gives : call.reads ≤ call.given + call.ends + call.faults
   pub given_is : length taken ≡ call.given
   pub consumed : Consumes rest left taken
+  pub least : (front back : List ℕ) → taken ≡ front ++ back → 0 < length back → IsCut wanted front
   pub answers : AnswersIn wanted most call taken left answer
 
 -- A reader that is done answers none and makes no read.

@@ -54,6 +54,7 @@ impl BufMessageReader {
     /// The next message, where a byte is left. Its body stays shared with the buffer.
     ///
     /// A message that is cut is an unexpected end. After an error there is no other message.
+    #[tactic(auto, using(crate::proofs::BufLemmas::buf_message, crate::proofs::BufLemmas::buf_fresh, crate::proofs::BufLemmas::buf_cut, crate::proofs::BufLemmas::buf_fails))]
     pub fn next(&mut self, alloc: Global) -> Option<Result<DecoderMessage, IpcError>>
         ensures { BufReads self.old result self.new }
     {

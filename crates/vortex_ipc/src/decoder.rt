@@ -1,6 +1,6 @@
 //! Reading messages from a queue of bytes, in any cutting.
 
-ghost use Rattle.std.specs.Prelude.{◌≡◌, ◌⊎◌, true, false, None, Some, ◌++◌, length, IfOk, IfErr};
+ghost use Rattle.std.specs.Prelude.{◌≡◌, ◌⊎◌, true, false, None, Some, ◌++◌, length, IfOk, IfErr, OnOk};
 ghost use Rattle.vortex_flat.specs.Numbers.{little_endian};
 ghost use Rattle.vortex_terms.specs.Term.{Term};
 ghost use Rattle.vortex_schema.specs.TypeAt.{IsTypeIn};
@@ -148,13 +148,14 @@ fn step(
             let size = header_size(prefix.as_slice());
             Ok((Begun::Length(prefix), PollRead::NeedMore(size)))
         }
-        Ok(begun) => Ok((begun, PollRead::NeedMore(4))),
+        Ok(Begun::Nothing) => Ok((Begun::Nothing, PollRead::NeedMore(4))),
+        Ok(Begun::Failed) => unreachable!(),
         Err(error) => Err(error),
     }
 }
 
 /// Takes the length and the header, as far as they stand there.
-#[tactic(auto, using(crate::proofs::QueueLemmas::lost_more))]
+#[tactic(auto, using(crate::proofs::QueueLemmas::lost_none, crate::proofs::QueueLemmas::lost_more))]
 fn take_front(alloc: Global, begun: Begun, bytes: &mut BytesQueue) -> Result<Begun, IpcError>
     requires begun { IsBegun begun }
     requires going { has_failed begun ≡ false }
@@ -162,6 +163,7 @@ fn take_front(alloc: Global, begun: Begun, bytes: &mut BytesQueue) -> Result<Beg
     ensures kept { IfOk result (λ b.
         begun_bytes begun ++ bytes.old ≡ begun_bytes b ++ bytes.new) }
     ensures far { IfOk result (λ b. IsFar b bytes.new) }
+    ensures lost { OnOk result (HasLost bytes.old bytes.new) }
     ensures stopped { IfErr result (λ e.
         NoHeaderBy (begun_bytes begun ++ bytes.old) e × HasLost bytes.old bytes.new) }
 {
@@ -176,7 +178,8 @@ fn take_front(alloc: Global, begun: Begun, bytes: &mut BytesQueue) -> Result<Beg
             take_header(alloc, prefix, bytes)
         }
         Begun::Length(prefix) => take_header(alloc, prefix, bytes),
-        begun => Ok(begun),
+        Begun::Header(taken) => Ok(Begun::Header(taken)),
+        Begun::Failed => unreachable!(),
     }
 }
 
@@ -193,7 +196,7 @@ fn header_size(prefix: &[u8]) -> usize
 }
 
 /// Takes the header behind its length, where it stands there.
-#[tactic(auto, using(crate::proofs::TakenLemmas::none_taken, crate::proofs::TakenLemmas::is_taken, crate::proofs::TakenLemmas::taken_parts))]
+#[tactic(auto, using(crate::proofs::QueueLemmas::lost_none, crate::proofs::QueueLemmas::lost_taken, crate::proofs::TakenLemmas::none_taken, crate::proofs::TakenLemmas::is_taken, crate::proofs::TakenLemmas::taken_parts))]
 fn take_header(
     alloc: Global,
     prefix: ByteBuffer,
@@ -203,6 +206,7 @@ fn take_header(
     ensures begun { IfOk result (λ b. IsBegun b) }
     ensures kept { IfOk result (λ b. prefix.bytes ++ bytes.old ≡ begun_bytes b ++ bytes.new) }
     ensures far { IfOk result (λ b. IsFar b bytes.new) }
+    ensures lost { OnOk result (HasLost bytes.old bytes.new) }
     ensures stopped { IfErr result (λ e.
         NoHeaderBy (prefix.bytes ++ bytes.old) e × HasLost bytes.old bytes.new) }
 {

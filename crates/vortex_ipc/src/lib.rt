@@ -12,7 +12,7 @@ mod sync_reader;
 
 pub use buf_reader::BufMessageReader;
 pub use decoder::MessageDecoder;
-pub use laws::{any_cutting, one_outcome};
+pub use laws::{any_cutting, one_outcome, some_outcome};
 pub use message::{DecoderMessage, PollRead};
 pub use queue::BytesQueue;
 pub use read_state::ReadState;

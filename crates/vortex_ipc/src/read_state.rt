@@ -103,6 +103,7 @@ impl ReadState {
         self.next_wanted(alloc, source, Some(kind))
     }
 
+    #[tactic(auto, using(crate::proofs::States::goes_on, crate::proofs::States::stays_done, crate::proofs::States::still_within, crate::proofs::States::still_gives))]
     fn next_wanted<S: Source>(
         &mut self,
         alloc: Global,
@@ -131,8 +132,18 @@ impl ReadState {
         );
         self.reads += reads;
         self.given = self.given.saturating_add(given);
-        self.done = !matches!(&answer, Some(Ok(_)));
+        self.done = is_done(&answer);
         answer
+    }
+}
+
+/// Whether a reader is done after this answer.
+fn is_done(answer: &Option<Result<DecoderMessage, IpcError>>) -> bool
+    ensures { result ≡ is_done answer.now }
+{
+    match answer {
+        Some(Ok(_)) => false,
+        Some(Err(_)) | None => true,
     }
 }
 

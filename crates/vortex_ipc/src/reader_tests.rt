@@ -103,3 +103,55 @@ fn a_reader_of_a_kind(rt: HostRuntime) -> Result<(), Fail> {
     assert_eq!(rt; short_answer(reader.next(rt.alloc())), None);
     Ok(())
 }
+
+#[test]
+fn a_reader_of_one_read(rt: HostRuntime) -> Result<(), Fail> {
+    let source = source(rt.alloc(), &BUFFER, 100, &[])?;
+    let registry = ArrayRegistry::canonical_only();
+    let mut reader = SyncMessageReader::with_max_reads(rt.alloc(), source, registry, 1)?;
+    let limit = Some(Read::Failed(IpcError::ReadLimit));
+    assert_eq!(rt; short_answer(reader.next(rt.alloc())), limit);
+    Ok(())
+}
+
+/// Two messages, one after the other.
+fn two_messages(alloc: Global) -> Result<Vec<u8>, Fail> {
+    let mut bytes = BUFFER.to_vec(alloc)?;
+    bytes.extend_from_slice(&BUFFER)?;
+    Ok(bytes)
+}
+
+#[test]
+fn no_byte_of_the_second_message(rt: HostRuntime) -> Result<(), Fail> {
+    let bytes = two_messages(rt.alloc())?;
+    let mut source = source(rt.alloc(), &bytes, 1000, &[])?;
+    let mut state = ReadState::new(rt.alloc(), ArrayRegistry::canonical_only(), 9)?;
+    let first = short_answer(state.next(rt.alloc(), &mut source));
+    assert_eq!(rt; first, Some(Read::Buffer(3)));
+    assert_eq!(rt; source.given_count(), 71);
+    Ok(())
+}
+
+/// The message of a buffer of 200,000 zeros.
+fn long_message(alloc: Global) -> Result<Vec<u8>, Fail> {
+    let mut front = BUFFER;
+    front[36] = 0x40;
+    front[37] = 0x0d;
+    front[38] = 0x03;
+    let mut bytes = front[..68].to_vec(alloc)?;
+    bytes.resize(200_068, 0)?;
+    Ok(bytes)
+}
+
+#[test]
+fn reads_of_a_long_body(rt: HostRuntime) -> Result<(), Fail> {
+    let bytes = long_message(rt.alloc())?;
+    let whole = from_source(rt.alloc(), &bytes, 1_000_000, &[], 6)?;
+    assert_eq!(rt; whole.0[0], Some(Read::Buffer(200_000)));
+    assert_eq!(rt; whole.1, 6);
+    let limit = Some(Read::Failed(IpcError::ReadLimit));
+    let short = from_source(rt.alloc(), &bytes, 1_000_000, &[], 5)?;
+    assert_eq!(rt; short.0, [limit, None]);
+    assert_eq!(rt; short.2, 68 + 3 * 65_536);
+    Ok(())
+}

@@ -141,3 +141,37 @@ fn types(rt: HostRuntime) -> Result<(), Fail> {
     assert_eq!(rt; decoded(rt.alloc(), &broken)?, none);
     Ok(())
 }
+
+#[test]
+fn lengths_on_which_nothing_is_taken(rt: HostRuntime) -> Result<(), Fail> {
+    let long = Read::NeedMore(4_294_967_295);
+    assert_eq!(rt; decoded(rt.alloc(), &[255; 100])?, long);
+    let mut bytes = BUFFER;
+    bytes[36] = 0;
+    bytes[43] = 128;
+    let body = Read::NeedMore(9_223_372_036_854_775_808);
+    assert_eq!(rt; decoded(rt.alloc(), &bytes)?, body);
+    Ok(())
+}
+
+/// The answer to the front of a message of an array without fields, where a kind is asked for.
+fn array_asked(alloc: Global, kind: MessageKind) -> Result<Read, Fail> {
+    let mut bytes = TYPE;
+    bytes[49] = 1;
+    let mut queue = BytesQueue::new(alloc)?;
+    queue.push(alloc, &bytes[..68])?;
+    Ok(short_poll(decoder().read_next_of(alloc, &mut queue, kind)))
+}
+
+#[test]
+fn arrays_are_of_another_kind(rt: HostRuntime) -> Result<(), Fail> {
+    let found = Some(MessageKind::Array);
+    let other = Read::Failed(IpcError::WrongKind { found });
+    for kind in [MessageKind::Array, MessageKind::Buffer, MessageKind::DType] {
+        assert_eq!(rt; array_asked(rt.alloc(), kind)?, other);
+    }
+    let mut bytes = TYPE;
+    bytes[49] = 1;
+    assert_eq!(rt; decoded(rt.alloc(), &bytes[..68])?, other);
+    Ok(())
+}
