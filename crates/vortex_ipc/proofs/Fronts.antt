@@ -33,7 +33,7 @@ one_length bytes size other rest left a b =
     }
 
 -- what a header says
-abbrev saying : Content → ℕ → Header
+abbrev pub saying : Content → ℕ → Header
 saying content size = record { content = content; body_size = size }
 
 abbrev size_in : Option Header → ℕ

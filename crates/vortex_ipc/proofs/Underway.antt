@@ -31,8 +31,8 @@ same_64 a = omega arith
 same_128 : (a : ℕ) → raised_128 a 0 ≡ a
 same_128 a = omega arith
 
-more_64 : (a m n : ℕ) → raised_64 (raised_64 a m) n ≡ raised_64 a (m + n)
-more_64 a m n = omega arith
+none_64 : (a n : ℕ) → raised_64 (raised_64 a 0) n ≡ raised_64 a n
+none_64 a n = omega arith
 
 more_128 : (a m n : ℕ) → raised_128 (raised_128 a m) n ≡ raised_128 a (m + n)
 more_128 a m n = omega arith
@@ -45,7 +45,7 @@ raised_none : (c : SourceCounts) → c ≡ raised_by c (counts 0 0 0 0)
 raised_none c = rw (same_64 c.faults, same_64 c.ends, same_128 c.given, same_128 c.reads) refl
 
 twice : (c : SourceCounts) (given made faults ends extra : ℕ) → raised_by (raised_by c (counts 0 0 given made)) (counts faults ends extra 1) ≡ raised_by c (counts faults ends (given + extra) (made + 1))
-twice c given made faults ends extra = rw (more_64 c.faults 0 faults, more_64 c.ends 0 ends, more_128 c.given given extra, more_128 c.reads made 1) refl
+twice c given made faults ends extra = rw (none_64 c.faults faults, none_64 c.ends ends, more_128 c.given given extra, more_128 c.reads made 1) refl
 
 after_read : (before now after : SourceCounts) (given made faults ends extra : ℕ) → now ≡ raised_by before (counts 0 0 given made) → after ≡ raised_by now (counts faults ends extra 1) → after ≡ raised_by before (counts faults ends (given + extra) (made + 1))
 after_read before now after given made faults ends extra e f = f ∙ ap (λ (c : SourceCounts). raised_by c (counts faults ends extra 1)) e ∙ twice before given made faults ends extra

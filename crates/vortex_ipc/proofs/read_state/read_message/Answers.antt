@@ -20,3 +20,25 @@ returns-in-Err-clause-came g c =
     let l = c.loop-made in
     came_fault c.args.wanted c.args.most (counts c.args.source.now) (counts l.source) (counts c.read_piece.new.source) (rest c.args.source.now) (rest l.source) (rest c.read_piece.new.source) l.decoder l.queue l.made l.given l.missing c.failed.result
     l.invariant.0 (omega arith) c.in-Err.ensures.counted c.in-Err.ensures.bytes c.failed.ensures
+
+pub returns-in-Err-push-clause-came : goal.returns-in-Err-push-clause-came
+returns-in-Err-push-clause-came g c = ?
+
+pub returns-in-Ok-Some-clause-came : goal.returns-in-Ok-Some-clause-came
+returns-in-Ok-Some-clause-came g c = ?
+
+pub returns-in-Ok-Some-clause-ready : goal.returns-in-Ok-Some-clause-ready
+returns-in-Ok-Some-clause-ready g c = ?
+
+pub returns-in-Err-read_wanted-clause-came : goal.returns-in-Err-read_wanted-clause-came
+returns-in-Err-read_wanted-clause-came g c = ?
+
+pub loop-made-preserved : goal.loop-made-preserved
+loop-made-preserved g c = ?
+
+pub returns-clause-came : goal.returns-clause-came
+returns-clause-came g c =
+    let counts = g.S.Source.counts in
+    let rest = g.S.Source.rest in
+    let l = c.loop-made in
+    came_limit c.args.wanted c.args.most (counts c.args.source.now) (counts l.source) (rest c.args.source.now) (rest l.source) l.decoder l.queue l.made l.given l.missing c.failed.result l.invariant.0 (omega arith) c.failed.ensures
