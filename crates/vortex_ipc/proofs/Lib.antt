@@ -1,3 +1,12 @@
 pub mod Heads
 pub mod Messages
 pub mod WrittenPieces
+pub mod HeadLemmas
+pub mod QueueLemmas
+pub mod TakenLemmas
+pub mod Fronts
+pub mod Outcomes
+pub mod Underway
+pub mod Steps
+pub mod BufLemmas
+pub mod States

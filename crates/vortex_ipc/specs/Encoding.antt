@@ -5,7 +5,7 @@ use Rattle.std.specs.Option.{option_map}
 use Rattle.std.specs.Int.{w32, to_le_bytes}
 use Rattle.std.specs.Io.KnownBytes.{Appends}
 use Rattle.vortex_prelude.specs.Chain.{◌>>=◌}
-use Rattle.vortex_flat.specs.Tree.{one, eight, Tree, table, Slots, no_slots, number_slot, target_slot}
+use Rattle.vortex_flat.specs.Tree.{one, eight, Tree, table, SlotTrees, no_slots, number_slot, target_slot}
 use Rattle.vortex_flat.specs.Layout.{layout_of}
 use Rattle.vortex_terms.specs.Types.{Bounded}
 use Rattle.vortex_schema.specs.TypeAt.{IsTypeIn}
@@ -27,7 +27,7 @@ content_of (given.Buffer b) = buffer_content b.now.exponent
 content_of (given.DType t) = type_content
 
 -- the table of the kind: that of a buffer has its alignment exponent, that of a type no field
-abbrev pub content_slots : EncoderMessage → Slots
+abbrev pub content_slots : EncoderMessage → SlotTrees
 content_slots (given.Buffer b) = number_slot one b.now.exponent no_slots
 content_slots (given.DType t) = no_slots
 

@@ -1,1 +1,8 @@
+pub mod Message
+pub mod Queue
+pub mod Decoding
+pub mod Decoder
+pub mod Reader
+pub mod Cutting
 pub mod Encoding
+pub mod inner

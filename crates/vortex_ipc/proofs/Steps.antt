@@ -1,0 +1,69 @@
+-- What a step of a decoder makes of a call.
+use Rattle.std.proofs.Common.{◌≡◌, ◌⊎◌, inl, inr, ℕ, Bool, true, false, List, [], ◌++◌, Option, Some, None, Result, Ok, Err, refl, sym, ap, subst}
+use Rattle.std.specs.Prelude.{IfErr}
+use Rattle.vortex_buffer.specs.Buffer.{Buffer}
+use Rattle.vortex_ipc.proofs.QueueLemmas.{lost_more}
+use Rattle.vortex_stream.specs.declared.kind.MessageKind.{MessageKind}
+use Rattle.vortex_stream.specs.declared.error.IpcError.{IpcError}
+use Rattle.vortex_stream.specs.declared.error.IpcError.TheVariants as error
+use Rattle.vortex_ipc.specs.declared.decoder.Begun.{Begun}
+use Rattle.vortex_ipc.specs.declared.decoder.Begun.TheVariants as begun
+use Rattle.vortex_ipc.specs.declared.message.PollRead.{PollRead}
+use Rattle.vortex_ipc.specs.declared.message.PollRead.TheVariants as poll
+use Rattle.vortex_ipc.specs.Decoding.{IsFlawed}
+use Rattle.vortex_ipc.specs.Decoder.{DecoderState, FailsBy, ReadsNext}
+use Rattle.vortex_ipc.specs.Queue.{HasLost}
+use Rattle.vortex_ipc.specs.inner.Begun.{Answered, NoHeaderBy, StopsBy, begun_bytes, has_failed}
+
+-- what is begun, as a state
+abbrev pub state_of : Begun → DecoderState
+state_of b = record { begun = begun_bytes b; failed = has_failed b }
+
+-- a step that answered
+pub reads_next : (wanted : Option MessageKind) (old : DecoderState) (before : List ℕ) (b : Begun) (p : PollRead) (after : List ℕ) → old.failed ≡ false → Answered wanted (old.begun ++ before) b p after → ReadsNext wanted old before (Ok p) (state_of b) after
+reads_next wanted old before b (poll.NeedMore size) after going h = (going, h.0, h.1, h.2)
+reads_next wanted old before b (poll.Some message) after going h = (going, h.0, ap state_of h.1)
+
+-- a step that stopped
+pub fails_by : (wanted : Option MessageKind) (old new : DecoderState) (before after : List ℕ) (e : IpcError) → old.failed ≡ false → new.failed ≡ true → StopsBy wanted (old.begun ++ before) e → HasLost before after → FailsBy wanted old before e new after
+fails_by wanted old new before after e going failed (inl memory) lost = subst (λ (x : IpcError). FailsBy wanted old before x new after) (sym memory) (going, failed, lost)
+fails_by wanted old new before after error.MalformedHeader going failed (inr h) lost = (going, h, failed, lost)
+fails_by wanted old new before after (error.WrongKind kind) going failed (inr h) lost = (going, h, failed, lost)
+fails_by wanted old new before after error.MalformedDType going failed (inr h) lost = (going, h, failed, lost)
+fails_by wanted old new before after error.UnknownEncoding going failed (inr h) lost = absurd h
+fails_by wanted old new before after error.MalformedArray going failed (inr h) lost = absurd h
+fails_by wanted old new before after error.Failed going failed (inr h) lost = absurd h
+fails_by wanted old new before after error.UnexpectedEnd going failed (inr h) lost = absurd h
+fails_by wanted old new before after error.ReadFault going failed (inr h) lost = absurd h
+fails_by wanted old new before after error.ReadLimit going failed (inr h) lost = absurd h
+fails_by wanted old new before after error.WriteFault going failed (inr h) lost = absurd h
+fails_by wanted old new before after error.TooLarge going failed (inr h) lost = absurd h
+fails_by wanted old new before after error.OutOfMemory going failed (inr h) lost = absurd h
+
+-- only a decoder that failed has failed
+pub failed_state : (b : Begun) → b ≡ begun.Failed → state_of b ≡ record { begun = []; failed = true }
+failed_state b e = ap state_of e
+
+-- ---- errors of steps
+
+-- what holds of an error holds of what follows from it
+pub if_err : {A : Type 0} (r : Result A IpcError) (P Q : IpcError → Type 0) → ((e : IpcError) → P e → Q e) → IfErr r P → IfErr r Q
+if_err (Ok x) P Q f h = tt
+if_err (Err e) P Q f h = f e h
+
+-- a step on what is behind the length, where nothing was begun
+pub early_nothing : {A : Type 0} (r : Result A IpcError) (b : Begun) (q prefix rest after : List ℕ) → b ≡ begun.Nothing → q ≡ prefix ++ rest
+    → IfErr r (λ e. NoHeaderBy (prefix ++ rest) e × HasLost rest after) → IfErr r (λ e. NoHeaderBy (begun_bytes b ++ q) e × HasLost q after)
+early_nothing r b q prefix rest after is parts h = if_err r (λ e. NoHeaderBy (prefix ++ rest) e × HasLost rest after) (λ e. NoHeaderBy (begun_bytes b ++ q) e × HasLost q after)
+    (λ e k. (subst (λ (x : Begun). NoHeaderBy (begun_bytes x ++ q) e) (sym is) (subst (λ (l : List ℕ). NoHeaderBy l e) (sym parts) k.0), lost_more q prefix rest after parts k.1)) h
+
+-- a step on what is behind the length, where that was begun
+pub early_length : {A : Type 0} (r : Result A IpcError) (b : Begun) (q after : List ℕ) (prefix : Buffer) → b ≡ begun.Length prefix
+    → IfErr r (λ e. NoHeaderBy (prefix.bytes ++ q) e × HasLost q after) → IfErr r (λ e. NoHeaderBy (begun_bytes b ++ q) e × HasLost q after)
+early_length r b q after prefix is h = subst (λ (x : Begun). IfErr r (λ e. NoHeaderBy (begun_bytes x ++ q) e × HasLost q after)) (sym is) h
+
+-- a step on what is behind the header
+pub late : {A : Type 0} (wanted : Option MessageKind) (r : Result A IpcError) (all q taken rest after : List ℕ) → all ≡ taken ++ rest → HasLost q rest
+    → IfErr r (λ e. StopsBy wanted (taken ++ rest) e × HasLost rest after) → IfErr r (λ e. StopsBy wanted all e × HasLost q after)
+late wanted r all q taken rest after parts gone h = if_err r (λ e. StopsBy wanted (taken ++ rest) e × HasLost rest after) (λ e. StopsBy wanted all e × HasLost q after)
+    (λ e k. (subst (λ (l : List ℕ). StopsBy wanted l e) (sym parts) k.0, lost_more q gone.0 rest after gone.1 k.1)) h

@@ -1,0 +1,160 @@
+-- What the readers of messages do in one call.
+use Rattle.std.specs.Prelude.{⊤, ◌≡◌, ◌⊎◌, Bool, true, false, ℕ, ◌+◌, ◌-◌, ◌<◌, ◌≤◌, List, [], ◌++◌, length, Option, Some, None, Result, Ok, Err}
+use Rattle.std.specs.Io.KnownBytes.{Consumes, IsAtEnd}
+use Rattle.vortex_stream.specs.Counts.{raised_128, raised_by}
+use Rattle.vortex_stream.specs.declared.counts.SourceCounts.{SourceCounts}
+use Rattle.vortex_stream.specs.declared.kind.MessageKind.{MessageKind}
+use Rattle.vortex_stream.specs.declared.error.IpcError.{IpcError}
+use Rattle.vortex_stream.specs.declared.error.IpcError.TheVariants as error
+use Rattle.vortex_ipc.specs.declared.message.DecoderMessage.{DecoderMessage}
+use Rattle.vortex_ipc.specs.Message.{message_of}
+use Rattle.vortex_ipc.specs.Decoding.{more, refused, found, Decodes}
+
+-- more bytes are needed after these
+abbrev pub IsCut : Option MessageKind → List ℕ → Type 0
+IsCut wanted bytes = (size : ℕ) × (there : List ℕ) × Decodes wanted bytes (more size there)
+
+-- ---- over bytes in hand
+
+-- the bytes that are left, and whether the reader is done
+pub record BufReaderState : Type 0 where
+  pub rest : List ℕ
+  pub done : Bool
+
+-- the reading of these bytes failed so
+abbrev pub FailsOn : Option MessageKind → List ℕ → IpcError → Type 0
+FailsOn wanted bytes error.UnexpectedEnd = IsCut wanted bytes
+FailsOn wanted bytes error.OutOfMemory = ⊤
+FailsOn wanted bytes error.MalformedHeader = Decodes wanted bytes (refused error.MalformedHeader)
+FailsOn wanted bytes (error.WrongKind kind) = Decodes wanted bytes (refused (error.WrongKind kind))
+FailsOn wanted bytes error.MalformedDType = Decodes wanted bytes (refused error.MalformedDType)
+FailsOn wanted bytes error.Failed = ⊥
+FailsOn wanted bytes error.UnknownEncoding = ⊥
+FailsOn wanted bytes error.MalformedArray = ⊥
+FailsOn wanted bytes error.ReadFault = ⊥
+FailsOn wanted bytes error.ReadLimit = ⊥
+FailsOn wanted bytes error.WriteFault = ⊥
+FailsOn wanted bytes error.TooLarge = ⊥
+
+-- What one call answered. There is no message where the reader is done or no byte is left, and then
+-- never one.
+abbrev pub BufReads
+    : BufReaderState → Option (Result DecoderMessage IpcError) → BufReaderState → Type 0
+BufReads old None new =
+    ((old.done ≡ true) ⊎ (length old.rest ≡ 0)) × (new.done ≡ true)
+BufReads old (Some (Ok message)) new =
+    (old.done ≡ false) × (0 < length old.rest) × (new.done ≡ false)
+    × Decodes None old.rest (found (message_of message) new.rest)
+BufReads old (Some (Err e)) new =
+    (old.done ≡ false) × (0 < length old.rest) × (new.done ≡ true) × FailsOn None old.rest e
+
+-- ---- over a source
+
+-- whether the reader is done, how many reads it made, how many bytes it took, and how many reads it
+-- may make
+pub record ReaderState : Type 0 where
+  pub done : Bool
+  pub reads : ℕ
+  pub given : ℕ
+  pub most : ℕ
+
+-- whether a reader is done after an answer
+abbrev pub is_done : {X E : Type 0} → Option (Result X E) → Bool
+is_done None = true
+is_done (Some (Ok x)) = false
+is_done (Some (Err e)) = true
+
+-- the state of a reader after a call that answered so and counts so by itself
+abbrev pub after_call
+    : {X E : Type 0} → ReaderState → SourceCounts → Option (Result X E) → ReaderState
+after_call s call answer = record {
+  done = is_done answer;
+  reads = s.reads + call.reads;
+  given = raised_128 s.given call.given;
+  most = s.most;
+}
+
+-- no read of the call failed or told the end
+abbrev pub AllGave : SourceCounts → Type 0
+AllGave call = (call.ends ≡ 0) × (call.faults ≡ 0)
+
+-- the last read of the call told the end
+abbrev pub ToldEnd : SourceCounts → Option (List ℕ) → Type 0
+ToldEnd call left = (call.ends ≡ 1) × (call.faults ≡ 0) × IsAtEnd left
+
+-- A call on these bytes failed so: the end was told behind the first of them, a read failed, or as
+-- many reads were made as may be, and more bytes are needed; memory ran out; or by the first flaw of
+-- the message.
+abbrev pub FailsIn
+    : Option MessageKind → ℕ → SourceCounts → List ℕ → Option (List ℕ) → IpcError → Type 0
+FailsIn wanted most call taken left error.UnexpectedEnd =
+    ToldEnd call left × (0 < length taken) × IsCut wanted taken
+FailsIn wanted most call taken left error.ReadFault =
+    (call.ends ≡ 0) × (call.faults ≡ 1) × IsCut wanted taken
+FailsIn wanted most call taken left error.ReadLimit =
+    AllGave call × (call.reads ≡ most) × IsCut wanted taken
+FailsIn wanted most call taken left error.OutOfMemory = AllGave call
+FailsIn wanted most call taken left error.MalformedHeader =
+    AllGave call × Decodes wanted taken (refused error.MalformedHeader)
+FailsIn wanted most call taken left (error.WrongKind kind) =
+    AllGave call × Decodes wanted taken (refused (error.WrongKind kind))
+FailsIn wanted most call taken left error.MalformedDType =
+    AllGave call × Decodes wanted taken (refused error.MalformedDType)
+FailsIn wanted most call taken left error.Failed = ⊥
+FailsIn wanted most call taken left error.UnknownEncoding = ⊥
+FailsIn wanted most call taken left error.MalformedArray = ⊥
+FailsIn wanted most call taken left error.WriteFault = ⊥
+FailsIn wanted most call taken left error.TooLarge = ⊥
+
+-- What a call that took these bytes answered: none where the end was told before the first of them,
+-- or the message that they are and nothing else.
+abbrev pub AnswersIn
+    : Option MessageKind → ℕ → SourceCounts → List ℕ → Option (List ℕ)
+    → Option (Result DecoderMessage IpcError) → Type 0
+AnswersIn wanted most call taken left None = ToldEnd call left × (taken ≡ [])
+AnswersIn wanted most call taken left (Some (Ok message)) =
+    AllGave call × Decodes wanted taken (found (message_of message) [])
+AnswersIn wanted most call taken left (Some (Err e)) = FailsIn wanted most call taken left e
+
+-- One call made so many reads at most, and no more than it was given bytes, an end or a fault. By
+-- itself it counts so, was given these bytes, and answered so. It took none that its answer does not
+-- need: each shorter front of them is cut.
+pub record ReadsMessage (wanted : Option MessageKind) (most : ℕ) (before after : SourceCounts)
+    (rest left : Option (List ℕ)) (answer : Option (Result DecoderMessage IpcError)) : Type 0 where
+  pub call : SourceCounts
+  pub taken : List ℕ
+  pub counted : after ≡ raised_by before call
+  pub few : call.reads ≤ most
+  pub each_gives : call.reads ≤ call.given + call.ends + call.faults
+  pub given_is : length taken ≡ call.given
+  pub consumed : Consumes rest left taken
+  pub least : (front back : List ℕ) → taken ≡ front ++ back → 0 < length back → IsCut wanted front
+  pub answers : AnswersIn wanted most call taken left answer
+
+-- A reader that is done answers none and makes no read.
+pub record StaysDone (old new : ReaderState) (before after : SourceCounts)
+    (rest left : Option (List ℕ)) (answer : Option (Result DecoderMessage IpcError)) : Type 0 where
+  pub done : old.done ≡ true
+  pub none : answer ≡ None
+  pub state : new ≡ old
+  pub counts : after ≡ before
+  pub kept : left ≡ rest
+
+-- Another one makes as many reads at most as are left to it, and counts them. Where it made all that
+-- it may, it took as many bytes.
+pub record GoesOn (wanted : Option MessageKind) (old new : ReaderState) (before after : SourceCounts)
+    (rest left : Option (List ℕ)) (answer : Option (Result DecoderMessage IpcError)) : Type 0 where
+  pub going : old.done ≡ false
+  pub message : ReadsMessage wanted (old.most - old.reads) before after rest left answer
+  pub state : new ≡ after_call old message.call answer
+  pub within : new.reads ≤ new.most
+  pub limit : answer ≡ Some (Err error.ReadLimit)
+      → (new.reads ≡ new.most) × (new.most ≤ new.given)
+
+-- what one call of a reader over a source did
+abbrev pub SourceReads
+    : Option MessageKind → ReaderState → ReaderState → SourceCounts → SourceCounts
+    → Option (List ℕ) → Option (List ℕ) → Option (Result DecoderMessage IpcError) → Type 0
+SourceReads wanted old new before after rest left answer =
+    StaysDone old new before after rest left answer
+    ⊎ GoesOn wanted old new before after rest left answer

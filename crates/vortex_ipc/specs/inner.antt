@@ -1,0 +1,4 @@
+pub mod Heads
+pub mod Begun
+pub mod Came
+pub mod Pieces

@@ -1,0 +1,87 @@
+-- What a decoder keeps of its present message, and what its steps answer.
+use Rattle.std.specs.Prelude.{⊤, ◌≡◌, ◌⊎◌, Bool, true, false, ℕ, ◌<◌, List, [], ◌++◌, length, Option, Some}
+use Rattle.std.specs.Option.{option_map}
+use Rattle.vortex_buffer.specs.Buffer.{Buffer}
+use Rattle.vortex_terms.specs.Term.{Term}
+use Rattle.vortex_flat.specs.Numbers.{little_endian}
+use Rattle.vortex_schema.specs.TypeAt.{IsTypeIn}
+use Rattle.vortex_stream.specs.Header.{Content, header_of}
+use Rattle.vortex_stream.specs.declared.kind.MessageKind.{MessageKind}
+use Rattle.vortex_stream.specs.declared.kind.MessageKind.TheVariants as kinds
+use Rattle.vortex_stream.specs.declared.error.IpcError.{IpcError}
+use Rattle.vortex_stream.specs.declared.error.IpcError.TheVariants as error
+use Rattle.vortex_ipc.specs.declared.decoder.Begun.{Begun}
+use Rattle.vortex_ipc.specs.declared.decoder.Begun.TheVariants as begun
+use Rattle.vortex_ipc.specs.declared.decoder.TakenHeader.{TakenHeader}
+use Rattle.vortex_ipc.specs.declared.header.ContentHead.{ContentHead}
+use Rattle.vortex_ipc.specs.declared.message.DecoderMessage.{DecoderMessage}
+use Rattle.vortex_ipc.specs.declared.message.PollRead.{PollRead}
+use Rattle.vortex_ipc.specs.declared.message.PollRead.TheVariants as poll
+use Rattle.vortex_ipc.specs.Message.{StandsFor, message_of}
+use Rattle.vortex_ipc.specs.Decoding.{HasNoHeader, HasMessage, IsFlawed, NeedsMore}
+use Rattle.vortex_ipc.specs.inner.Heads.{content_head, head_of}
+
+-- the bytes of a header and of the length before it
+abbrev pub taken_bytes : TakenHeader → List ℕ
+taken_bytes t = t.prefix.bytes ++ t.header.bytes
+
+-- the bytes that were taken
+abbrev pub begun_bytes : Begun → List ℕ
+begun_bytes begun.Nothing = []
+begun_bytes (begun.Length prefix) = prefix.bytes
+begun_bytes (begun.Header t) = taken_bytes t
+begun_bytes begun.Failed = []
+
+-- whether an earlier call failed
+abbrev pub has_failed : Begun → Bool
+has_failed begun.Nothing = false
+has_failed (begun.Length prefix) = false
+has_failed (begun.Header t) = false
+has_failed begun.Failed = true
+
+-- the length tells the header, and the header says what is kept of it
+pub record IsTaken (t : TakenHeader) : Type 0 where
+  pub prefix_len : length t.prefix.bytes ≡ 4
+  pub size_is : little_endian t.prefix.bytes ≡ length t.header.bytes
+  pub head_is : option_map head_of (header_of t.header.bytes) ≡ Some t.head
+
+-- what was taken is the front of a message
+abbrev pub IsBegun : Begun → Type 0
+IsBegun begun.Nothing = ⊤
+IsBegun (begun.Length prefix) = length prefix.bytes ≡ 4
+IsBegun (begun.Header t) = IsTaken t
+IsBegun begun.Failed = ⊤
+
+-- no more of the length and the header stands there whole
+abbrev pub IsFar : Begun → List ℕ → Type 0
+IsFar begun.Nothing rest = length rest < 4
+IsFar (begun.Length prefix) rest = length rest < little_endian prefix.bytes
+IsFar (begun.Header t) rest = ⊤
+IsFar begun.Failed rest = ⊥
+
+-- a step on these bytes left this begun and the rest, and answered so
+abbrev pub Answered
+    : Option MessageKind → List ℕ → Begun → PollRead → List ℕ → Type 0
+Answered wanted bytes b (poll.NeedMore size) rest =
+    NeedsMore wanted bytes size rest × (has_failed b ≡ false) × (begun_bytes b ++ rest ≡ bytes)
+Answered wanted bytes b (poll.Some message) rest =
+    HasMessage wanted bytes (message_of message) rest × (b ≡ begun.Nothing)
+
+-- a step on these bytes stopped by lack of memory, or by a flaw
+abbrev pub StopsBy : Option MessageKind → List ℕ → IpcError → Type 0
+StopsBy wanted bytes e = (e ≡ error.OutOfMemory) ⊎ IsFlawed wanted bytes e
+
+-- by lack of memory, or since no header stands there
+abbrev pub NoHeaderBy : List ℕ → IpcError → Type 0
+NoHeaderBy bytes e = (e ≡ error.OutOfMemory) ⊎ ((e ≡ error.MalformedHeader) × HasNoHeader bytes)
+
+-- by lack of memory, or since no type stands in the body
+abbrev pub NoTypeBy : ContentHead → List ℕ → IpcError → Type 0
+NoTypeBy head body e =
+    (e ≡ error.OutOfMemory)
+    ⊎ ((e ≡ error.MalformedDType) × (head.kind ≡ kinds.DType) × ((t : Term) → IsTypeIn body t → ⊥))
+
+-- the body stands for the message under each content of which this is kept
+abbrev pub HeadStandsFor : ContentHead → List ℕ → DecoderMessage → Type 0
+HeadStandsFor head body message =
+    (content : Content) → content_head content ≡ head → StandsFor content body (message_of message)
