@@ -6,7 +6,7 @@ use Rattle.std.proofs.lemmas.Nat.{from_le_bytes-to_le_bytes_4, from_le_bytes-to_
 use Rattle.vortex_flat.specs.Numbers.{little_endian, number}
 use Rattle.vortex_flat.specs.Table.{table_at, field_in}
 use Rattle.vortex_flat.specs.Layout.{low_first, whole_of, layout_of}
-use Rattle.vortex_flat.specs.Tree.{one, eight, Tree, table, Slots, no_slots, number_slot, target_slot}
+use Rattle.vortex_flat.specs.Tree.{one, eight, Tree, table, SlotTrees, no_slots, number_slot, target_slot}
 use Rattle.vortex_flat.proofs.NumbersLemmas.{spell_4, spell_8}
 use Rattle.vortex_prelude.specs.Chain.{◌>>=◌}
 use Rattle.vortex_schema.specs.TypeTree.{tree_of_type}
@@ -39,7 +39,7 @@ abbrev pub says : Content → ℕ → Header
 says content size = record { content = content; body_size = size }
 
 -- the header of a kind whose table has these slots
-abbrev pub header_with : MessageKind → Slots → ℕ → Tree
+abbrev pub header_with : MessageKind → SlotTrees → ℕ → Tree
 header_with kind slots size = table (number_slot one VERSION (number_slot one (kind_number kind) (target_slot (table slots) (number_slot eight size no_slots))))
 
 buffer_reads : (exponent size : ℕ) → header_of (whole_of (header_with Buffer (number_slot one exponent no_slots) size)) ≡ Some (says (buffer_content (little_endian (low_first 1 exponent))) (little_endian (to_le_bytes w64 size)))

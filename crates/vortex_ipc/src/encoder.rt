@@ -64,20 +64,20 @@ fn body(alloc: Global, message: EncoderMessage<'_>) -> Result<Bytes, IpcError>
     ensures { Encodes (λ b. b) result message.entry (body_of message.entry) }
 {
     match message {
-        EncoderMessage::Buffer(buffer) => Ok(bytes_of(alloc, buffer)?),
+        EncoderMessage::Buffer(buffer) => Ok(bytes_of(buffer)?),
         EncoderMessage::DType(dtype) => match dtype.write_flatbuffer_bytes(alloc) {
-            Ok(buffer) => Ok(bytes_of(alloc, &buffer)?),
+            Ok(buffer) => Ok(bytes_of(&buffer)?),
             Err(DTypeError::TooLarge) => Err(IpcError::TooLarge),
             Err(_) => Err(IpcError::OutOfMemory),
         },
     }
 }
 
-/// The bytes of a buffer.
-fn bytes_of(alloc: Global, buffer: &ByteBuffer) -> Result<Bytes, AllocError>
+/// The bytes of a buffer, which stay shared with it.
+fn bytes_of(buffer: &ByteBuffer) -> Result<Bytes, AllocError>
     ensures { IfOk result (λ b. b ≡ buffer.now.bytes) }
 {
-    Bytes::copy_from_slice(alloc, buffer.as_slice())
+    buffer.inner().clone()
 }
 
 /// What stands before a body, and the body where it is not empty.

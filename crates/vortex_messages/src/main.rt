@@ -1,0 +1,56 @@
+//! Lists the messages of a stream on standard input, one a line: the text of a type, or the size of a
+//! buffer and the exponent of its alignment. The status is 0 where the input ends between two
+//! messages, and else the number of the error, which stands on standard error.
+#![tactic(auto)]
+
+use std::alloc::Global;
+use std::io;
+use std::io::{BufWriter, Write};
+use std::process::ExitCode;
+use vortex_array::ArrayRegistry;
+use vortex_ipc::{DecoderMessage, IpcError, ReadSource, Source, SyncMessageReader};
+
+/// A list that cannot be written.
+const NO_OUTPUT: u8 = 64;
+
+/// One line for a message.
+fn line<W: Write>(out: &mut W, message: &DecoderMessage) -> io::Result<()> {
+    match message {
+        DecoderMessage::DType(dtype) => writeln!(out, "type {dtype}"),
+        DecoderMessage::Buffer(buffer) => {
+            let exponent = buffer.alignment().exponent();
+            writeln!(out, "buffer of {} bytes, alignment 2^{exponent}", buffer.len())
+        }
+    }
+}
+
+/// Lists the messages up to the end or an error, which it gives.
+fn list<S: Source + Drop, W: Write>(
+    alloc: Global,
+    source: S,
+    out: &mut W,
+) -> io::Result<Option<IpcError>> {
+    let mut reader = match SyncMessageReader::new(alloc, source, ArrayRegistry::canonical_only()) {
+        Ok(reader) => reader,
+        Err(error) => return Ok(Some(error)),
+    };
+    loop {
+        match reader.next(alloc) {
+            None => return Ok(None),
+            Some(Ok(message)) => line(out, &message)?,
+            Some(Err(error)) => return Ok(Some(error)),
+        }
+    }
+}
+
+fn main(rt: HostRuntime) -> ExitCode {
+    let mut out = io::writer(&rt);
+    match list(rt.alloc(), ReadSource::new(rt.stdin()), &mut out) {
+        Ok(None) => ExitCode::from(0),
+        Ok(Some(error)) => {
+            let _ = writeln!(rt.stderr(), "{error}");
+            ExitCode::from(error.number())
+        }
+        Err(_) => ExitCode::from(NO_OUTPUT),
+    }
+}
