@@ -15,6 +15,12 @@ const NULL: [u8; 48] = [
     0, 4, 0, 4, 0, 0, 0, 0, 0, 8, 0, 0, 0, 0, 0, 0, 0,
 ];
 
+/// The nullable type of truth values in a flat buffer.
+const TRUTH: [u8; 48] = [
+    16, 0, 0, 0, 0, 0, 0, 0, 8, 0, 9, 0, 8, 0, 4, 0, 8, 0, 0, 0, 20, 0, 0, 0, 2, 0, 0, 0, 0, 0, 0,
+    0, 6, 0, 5, 0, 4, 0, 0, 0, 8, 0, 0, 0, 1, 0, 0, 0,
+];
+
 /// A 32-bit integer in a flat buffer, whose nullability, at 45, is 7.
 const NUMBER: [u8; 48] = [
     16, 0, 0, 0, 0, 0, 0, 0, 8, 0, 9, 0, 8, 0, 4, 0, 8, 0, 0, 0, 20, 0, 0, 0, 3, 0, 0, 0, 0, 0, 0,
@@ -203,6 +209,24 @@ fn hashes(rt: HostRuntime) -> Result<(), Fail> {
     Ok(())
 }
 
+#[test]
+fn hashes_of_kinds(rt: HostRuntime) {
+    let plain = [
+        DType::Null,
+        DType::Bool(NOT),
+        DType::BYTES,
+        DType::Decimal(DecimalDType::new(1, 0), NOT),
+        DType::Utf8(NOT),
+        DType::Binary(NOT),
+        DType::Struct(StructFields::empty(), NOT),
+    ];
+    for (i, one) in plain.iter().enumerate() {
+        for (j, other) in plain.iter().enumerate() {
+            assert_eq!(rt; hash_of(one) == hash_of(other), i == j, "{i} and {j}");
+        }
+    }
+}
+
 /// Which of the predicates are true, in the order of their names below.
 fn predicates(dtype: &DType) -> [bool; 13] {
     [
@@ -271,7 +295,7 @@ fn accessors(rt: HostRuntime) {
         assert!(rt; dtype.try_decimal() == *decimal);
         assert_eq!(rt; dtype.as_decimal_opt().is_some(), decimal.is_ok());
     }
-    assert_eq!(rt; DType::BYTES.as_ptype(), PType::U8);
+    assert_eq!(rt; DType::bytes().as_ptype(), PType::U8);
 }
 
 #[test]
@@ -473,7 +497,10 @@ fn selector(alloc: Global, step: &str) -> Result<Field, DTypeError> {
 fn paths(rt: HostRuntime) -> Result<(), Fail> {
     let alloc = rt.alloc();
     let path = path(alloc, &["a", "[]", "b"])?;
-    assert_eq!(rt; format!(in alloc; "{path}")?.as_str(), "$a.[].$b");
+    assert_eq!(rt;
+        format!(in alloc; "{path} {path:?}")?.as_str(),
+        "$a.[].$b $a.[].$b"
+    );
     assert_eq!(rt; (path.parts().len(), path.is_root()), (3, false));
     let again = path.try_clone(alloc)?;
     assert!(rt; path == again);
@@ -488,6 +515,7 @@ fn paths(rt: HostRuntime) -> Result<(), Fail> {
 fn first_steps(rt: HostRuntime) -> Result<(), Fail> {
     let alloc = rt.alloc();
     let path = FieldPath::from_name(alloc, Field::from_text(alloc, "a")?)?;
+    assert!(rt; path.starts_with_name() && !FieldPath::root().starts_with_name());
     assert!(rt; path.starts_with_field(&Field::from_text(alloc, "a")?));
     assert!(rt; !path.starts_with_field(&Field::from_text(alloc, "b")?));
     let fields = vec![in alloc; Field::from_text(alloc, "a")?]?;
@@ -506,12 +534,24 @@ fn nested_struct(alloc: Global) -> Result<DType, DTypeError> {
 fn resolved(rt: HostRuntime) -> Result<(), Fail> {
     let alloc = rt.alloc();
     let dtype = nested_struct(alloc)?;
-    let there = path(alloc, &["a", "[]", "b"])?;
-    assert!(rt; there.resolve(alloc, &dtype)? == Some(DType::from_ptype(PType::U32)));
-    assert!(rt; there.exists_in(&dtype));
-    let nowhere = path(alloc, &["a", "b"])?;
-    assert!(rt; nowhere.resolve(alloc, &dtype)?.is_none());
-    assert!(rt; !nowhere.exists_in(&dtype));
+    let path = path(alloc, &["a", "[]", "b"])?;
+    assert!(rt; path.resolve(alloc, &dtype)? == Some(DType::from_ptype(PType::U32)));
+    assert!(rt; path.exists_in(&dtype));
+    Ok(())
+}
+
+/// Whether a path leads nowhere in `{a=list({b=u32})?}`.
+fn leads_nowhere(alloc: Global, steps: &[&str]) -> Result<bool, DTypeError> {
+    let dtype = nested_struct(alloc)?;
+    let path = path(alloc, steps)?;
+    Ok(path.resolve(alloc, &dtype)?.is_none() && !path.exists_in(&dtype))
+}
+
+#[test]
+fn nowhere(rt: HostRuntime) -> Result<(), Fail> {
+    assert!(rt; leads_nowhere(rt.alloc(), &["b"])?);
+    assert!(rt; leads_nowhere(rt.alloc(), &["[]"])?);
+    assert!(rt; leads_nowhere(rt.alloc(), &["a", "b"])?);
     Ok(())
 }
 
@@ -529,27 +569,52 @@ fn sets_of_paths(rt: HostRuntime) -> Result<(), Fail> {
 fn masks(rt: HostRuntime) -> Result<(), Fail> {
     assert!(rt; FieldMask::All.matches_all() && FieldMask::All.matches_root());
     assert!(rt; FieldMask::All.starting_field().err() == Some(DTypeError::AllMask));
-    let prefix = FieldMask::Prefix(path(rt.alloc(), &["a"])?);
-    assert!(rt; !prefix.matches_all() && !prefix.matches_root());
-    assert!(rt; matches!(prefix.starting_field(), Ok(Some(field)) if field.is_named()));
-    assert!(rt; prefix.step_into() == Ok(FieldMask::All));
+    assert!(rt; FieldMask::All.step_into() == Ok(FieldMask::All));
     let root = FieldMask::Exact(FieldPath::root());
     assert!(rt; !root.matches_all() && root.matches_root());
     assert!(rt; root.step_into() == Err(DTypeError::ExactRoot));
+    masks_select();
     Ok(())
 }
 
 #[test]
-fn written(rt: HostRuntime) -> Result<(), Fail> {
-    let alloc = rt.alloc();
-    let null = DType::Null.write_flatbuffer_bytes(alloc)?;
+fn prefixes(rt: HostRuntime) -> Result<(), Fail> {
+    let prefix = FieldMask::Prefix(path(rt.alloc(), &["a"])?);
+    assert!(rt; !prefix.matches_all() && !prefix.matches_root());
+    assert!(rt; matches!(prefix.starting_field(), Ok(Some(field)) if field.is_named()));
+    assert_eq!(rt;
+        format!(in rt.alloc(); "{prefix:?}")?.as_str(),
+        "Prefix($a)"
+    );
+    assert!(rt; prefix.step_into() == Ok(FieldMask::All));
+    Ok(())
+}
+
+#[test]
+fn written_bytes(rt: HostRuntime) -> Result<(), Fail> {
+    let null = DType::Null.write_flatbuffer_bytes(rt.alloc())?;
     assert_eq!(rt; null.as_slice(), NULL.as_slice());
-    let number = DType::from_ptype(PType::I32);
-    let dtype = DType::struct_(alloc, &[("a", number)], NOT)?;
-    let bytes = dtype.write_flatbuffer_bytes(alloc)?;
-    assert_eq!(rt; bytes.len(), 128);
-    assert!(rt; DTypeView::root(bytes)?.value(alloc)? == dtype);
+    let truth = DType::Bool(MAY).write_flatbuffer_bytes(rt.alloc())?;
+    assert_eq!(rt; truth.as_slice(), TRUTH.as_slice());
     written_types_are_read();
+    Ok(())
+}
+
+/// How many bytes are written for a type, from which it is read again.
+fn written_size(alloc: Global, dtype: &DType) -> Result<Option<usize>, DTypeError> {
+    let bytes = dtype.write_flatbuffer_bytes(alloc)?;
+    let size = bytes.len();
+    let again = DTypeView::root(bytes)?.value(alloc)?;
+    Ok(if again == *dtype { Some(size) } else { None })
+}
+
+#[test]
+fn read_again(rt: HostRuntime) -> Result<(), Fail> {
+    let number = DType::from_ptype(PType::I32);
+    let dtype = DType::struct_(rt.alloc(), &[("a", number)], NOT)?;
+    assert_eq!(rt; written_size(rt.alloc(), &dtype)?, Some(128));
+    let dtype = extension(rt.alloc(), DType::Utf8(MAY), None)?;
+    assert!(rt; written_size(rt.alloc(), &dtype)?.is_some());
     Ok(())
 }
 
@@ -564,11 +629,9 @@ fn nested(alloc: Global, levels: u8) -> Result<DType, DTypeError> {
 
 #[test]
 fn levels(rt: HostRuntime) -> Result<(), Fail> {
-    let alloc = rt.alloc();
-    let deepest = nested(alloc, 64)?;
-    let bytes = deepest.write_flatbuffer_bytes(alloc)?;
-    assert!(rt; DTypeView::root(bytes)?.value(alloc)? == deepest);
-    let refused = nested(alloc, 65)?.write_flatbuffer_bytes(alloc);
+    let deepest = nested(rt.alloc(), 64)?;
+    assert!(rt; written_size(rt.alloc(), &deepest)?.is_some());
+    let refused = nested(rt.alloc(), 65)?.write_flatbuffer_bytes(rt.alloc());
     assert!(rt; refused.err() == Some(DTypeError::TooLarge));
     Ok(())
 }
