@@ -58,6 +58,10 @@ place_end fs x i whole h so_far =
     let none : drop i (names_of fs) ≡ [] = drop_end (names_of fs) i (omega (arith, length-names_of fs, h)) in
     ap (position_from (λ y. bytes_eq y x) i) (sym none) ∙ so_far
 
+-- no name stands behind the last field
+pub place_none : (fs : Fields) (q : List ℕ) (i : ℕ) → i ≡ field_count fs → None ≡ place_from fs q i
+place_none fs q i e = place_end fs q i (place_from fs q i) (omega (arith, e)) refl
+
 -- ---- one step in a type
 
 no_some : {A : Type 0} (i : A) → Some i ≡ None → ⊥

@@ -3,6 +3,7 @@
 --     stepped            the mask as it is seen one step further in
 --     starting_part      the step with which all that a mask selects begins
 --     selects_all        whether a mask selects everything
+--     Leads              whether what a mask selects may lie behind a step
 --     IsStepInto         the masks select the same, seen from the first step and from behind it
 use Rattle.std.specs.Prelude.{◌≡◌, Bool, true, false, ◌&&◌, nat_eq, List, [], ◌∷◌, length}
 use Rattle.std.specs.Prelude.{Option, Some, Result, Ok, Err}
@@ -46,8 +47,16 @@ starting_part All = Err error.AllMask
 starting_part (Prefix front) = Ok (first_part front)
 starting_part (Exact only) = Ok (first_part only)
 
--- behind the first step of a mask, the other selects what the mask does
+-- what the mask selects may lie behind this step
+abbrev pub Leads : FieldMask → PathPart → Type 0
+Leads All part = Unit {0}
+Leads (Prefix []) part = Unit {0}
+Leads (Prefix (a ∷ front)) part = a ≡ part
+Leads (Exact []) part = ⊥
+Leads (Exact (a ∷ only)) part = a ≡ part
+
+-- behind a step that leads there, the other selects what the mask does
 abbrev pub IsStepInto : FieldMask → FieldMask → Type 0
 IsStepInto mask inner =
-    (part : PathPart) (path : List PathPart) → starting_part mask ≡ Ok (Some part)
+    (part : PathPart) (path : List PathPart) → Leads mask part
     → selects inner path ≡ selects mask (part ∷ path)

@@ -7,7 +7,7 @@ mod paths;
 mod view;
 mod viewed_fields;
 
-pub use masks::FieldMask;
+pub use masks::{FieldMask, masks_select};
 pub use path_set::FieldPathSet;
 pub use paths::FieldPath;
 pub use view::DTypeView;

@@ -1,6 +1,6 @@
 //! Masks over the fields of a type.
 
-ghost use Rattle.std.specs.Prelude.{◌≡◌, ◌↔◌, true, List, [], IfOk};
+ghost use Rattle.std.specs.Prelude.{◌≡◌, ◌↔◌, ◌++◌, true, List, [], IfOk};
 ghost use Rattle.std.specs.Option.{option_copied, option_map};
 ghost use Rattle.std.specs.Result.{result_map_both};
 ghost use Rattle.vortex_terms.specs.Path.{PathPart};
@@ -82,3 +82,13 @@ impl FieldMask {
         }
     }
 }
+
+/// Which paths a mask selects: those that begin with the path of a prefix, and the path itself of
+/// an exact mask. It does nothing when the program runs.
+#[tactic(auto, using(crate::proofs::Masked::prefix_selects, crate::proofs::Masked::exact_selects))]
+pub fn masks_select()
+    ensures prefix { (front path : List PathPart) → (selects (FieldMask.Prefix front) path ≡ true)
+        ↔ ((rest : List PathPart) × (path ≡ front ++ rest)) }
+    ensures exact { (only path : List PathPart) →
+        (selects (FieldMask.Exact only) path ≡ true) ↔ (path ≡ only) }
+{}

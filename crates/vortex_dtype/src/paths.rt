@@ -8,6 +8,7 @@ ghost use Rattle.std.specs.Option.{option_copied, option_map, option_map_or};
 ghost use Rattle.std.specs.Str.{bytes_eq};
 ghost use Rattle.vortex_terms.specs.Path.{by_name, element, path_part_eq, resolved, step_type};
 ghost use Rattle.vortex_terms.specs.Types.{place_of};
+ghost use Rattle.vortex_names.specs.Selectors.{name_of};
 ghost use Rattle.vortex_types.specs.DTypes.{term_of};
 ghost use Rattle.vortex_dtype.specs.Paths.{part_of, parts_of, is_named_part, first_part};
 ghost use Rattle.vortex_dtype.specs.Paths.{without_first};
@@ -32,7 +33,7 @@ const FIXED_SIZE_LIST: u8 = 10;
 /// The steps from a type to a type inside it. Contracts see them as a list.
 ///
 /// A path of no steps leads to the type itself, the root.
-#[derive(Debug, Drop)]
+#[derive(Drop)]
 pub struct FieldPath {
     // None stands for no steps, since those need no allocator.
     parts: Option<Vec<Field>>,
@@ -107,10 +108,20 @@ impl FieldPath {
         Ok(FieldPath { parts: Some(parts) })
     }
 
+    /// Whether the first step is to a field.
+    pub fn starts_with_name(&self) -> bool
+        ensures { result ≡ option_map_or is_named_part (first_part self.now) false }
+    {
+        match self.parts() {
+            [first, ..] => first.is_named(),
+            [] => false,
+        }
+    }
+
     /// Whether the first step is to this field.
     pub fn starts_with_field(&self, field: &Field) -> bool
-        requires name { is_named_part (part_of field.now) ≡ true }
-        requires first { option_map is_named_part (first_part self.now) ≡ Some true }
+        requires name { is_some (name_of field.now) ≡ true }
+        requires first { option_map_or is_named_part (first_part self.now) false ≡ true }
         ensures { let is_it = path_part_eq (part_of field.now) in
             result ≡ option_map_or is_it (first_part self.now) false }
     {
@@ -196,6 +207,14 @@ impl Hash for FieldPath {
 
     fn hash<H: Hasher>(&self, state: &mut H) {
         self.parts().hash(state);
+    }
+}
+
+impl fmt::Debug for FieldPath {
+    ghost debug_output = { λ p. Some (path_text p) };
+
+    fn fmt<W: fmt::Write>(&self, f: &mut fmt::Formatter<W>) -> fmt::Result {
+        fmt::Display::fmt(self, f)
     }
 }
 

@@ -1,7 +1,7 @@
 //! Types.
 
 ghost use Rattle.std.specs.Prelude.{◌≡◌, false, map, IfOk, IsOkUnless};
-ghost use Rattle.vortex_terms.specs.Term.{primitive, structure, list};
+ghost use Rattle.vortex_terms.specs.Term.{primitive, structure, list, unsigned_8};
 ghost use Rattle.vortex_terms.specs.Types.{Legal, fields_from};
 ghost use Rattle.vortex_names.specs.Nullable.{is_nullable as is_null};
 ghost use Rattle.vortex_number.specs.WholeKind.{whole_kind};
@@ -45,6 +45,13 @@ pub enum DType {
 impl DType {
     /// Bytes as whole numbers.
     pub const BYTES: DType = DType::Primitive(PType::U8, Nullability::NonNullable);
+
+    /// Bytes as whole numbers, as `BYTES`.
+    pub fn bytes() -> DType
+        ensures { term_of result ≡ primitive unsigned_8 false }
+    {
+        DType::BYTES
+    }
 
     /// Whole numbers of this kind, none of them null.
     pub fn from_ptype(ptype: PType) -> DType

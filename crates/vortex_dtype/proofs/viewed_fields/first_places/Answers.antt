@@ -1,11 +1,16 @@
-use Rattle.std.proofs.Common.{◌≡◌, ◌+◌, ◌-◌, ◌<◌, ◌∙◌, arith}
+use Rattle.std.proofs.Common.{◌≡◌, ◌+◌, ◌-◌, ◌<◌, ap, ◌∙◌, arith}
+use Rattle.std.specs.Map.{lookup}
 use Rattle.std.specs.HashMap.{get_by}
 use Rattle.std.specs.Str.{bytes_eq}
 use Rattle.std.proofs.lemmas.Map.Text.{hash_map_updates_str}
 use Rattle.vortex_terms.specs.Types.{field_count}
 use Rattle.vortex_schema.specs.Views.{fields_of}
-use Rattle.vortex_dtype.proofs.Walked.{place_start, place_before}
+use Rattle.vortex_dtype.proofs.Walked.{place_start, place_before, place_none}
 use Rattle.vortex_dtype.proofs.viewed_fields.first_places.Goals as goal
+
+pub loop-i-init : goal.loop-i-init
+loop-i-init c =
+    (omega (arith, c.len-i.ensures), λ q. ap (lookup (λ k. bytes_eq q k.now)) c.new-places.ensures.empty ∙ place_none (fields_of c.args.fields.now) q _ c.len-i.ensures)
 
 pub loop-i-preserved : goal.loop-i-preserved
 loop-i-preserved c =

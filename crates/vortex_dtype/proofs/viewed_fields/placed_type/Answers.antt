@@ -5,4 +5,4 @@ use Rattle.vortex_dtype.proofs.viewed_fields.placed_type.Goals as goal
 
 pub dtype-requires : goal.dtype-requires
 dtype-requires c =
-    found_within (fields_of c.args.fields.now) c.args.name.now c.in-Some.i (c.in-Some.ensures ∙ c.args.requires c.args.name.now)
+    found_within (fields_of c.args.fields.now) c.args.name.now c.in-Some.i (c.in-Some.ensures ∙ c.requires c.args.name.now)
