@@ -1,8 +1,9 @@
 //! Codes in slots, each found by the hash of its key.
 
-ghost use Rattle.std.specs.Prelude.{◌≡◌, ◌+◌, ◌-◌, ◌^◌, ◌<◌, ◌≤◌, ◌↔◌, [], ◌∷◌, ◌++◌, length, replicate, IfOk, OnOk, Err, None, if◌then◌else◌, is_ok};
+ghost use Rattle.std.specs.Prelude.{◌≡◌, ◌+◌, ◌-◌, ◌^◌, ◌<◌, ◌≤◌, ◌↔◌, [], ◌∷◌, ◌++◌, length, replicate, IfErr, IfOk, OnOk, Err, None, if◌then◌else◌, is_ok};
 ghost use Rattle.std.specs.Option.{option_map};
 ghost use Rattle.vortex_codes.specs.Places.{place_of};
+ghost use Rattle.vortex_codes.specs.Refusals.{IsOfSize};
 ghost use Rattle.vortex_codes.specs.Keys.{key_at, keys_of, key_size, same_key};
 ghost use Rattle.vortex_codes.specs.Slots.{free_count, IsFilled, IsPlaced};
 ghost use Rattle.vortex_codes.specs.Table.{start_of, IsIndex, IsParted, IsTable};
@@ -167,6 +168,7 @@ pub(crate) fn add_hashed<H: KeyHash>(
     ensures keys { keys_of bytes.new.items offsets.new.items null.new ≡ (if is_ok result then keys_of bytes.old.items offsets.old.items null.old ++ option_map (λ k. k.now) key.entry ∷ [] else keys_of bytes.old.items offsets.old.items null.old) }
     ensures code { IfOk result (λ a. a.code ≡ length (keys_of bytes.old.items offsets.old.items null.old)) }
     ensures too_large { (result ≡ Err DictError.TooLarge) ↔ (2 ^ 32 ≤ length bytes.old.items + key_size (option_map (λ k. k.now) key.entry)) }
+    ensures errors { IfErr result (λ e. IsOfSize e) }
 {
     let piece = piece_of(key);
     let code = next_code(bytes.len(), offsets.len(), piece)?;

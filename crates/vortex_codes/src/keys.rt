@@ -1,7 +1,8 @@
 //! Keys whose bytes stand in one buffer. Key i stands from offset i to offset i + 1.
 
-ghost use Rattle.std.specs.Prelude.{◌≡◌, ◌+◌, ◌-◌, ◌^◌, ◌<◌, ◌≤◌, [], ◌∷◌, ◌++◌, length, ◌↔◌, Err, IfOk, OnOk, OnErr, vec_len, vec_capacity};
+ghost use Rattle.std.specs.Prelude.{◌≡◌, ◌+◌, ◌-◌, ◌^◌, ◌<◌, ◌≤◌, [], ◌∷◌, ◌++◌, length, ◌↔◌, Err, IfErr, IfOk, OnOk, OnErr, vec_len, vec_capacity};
 ghost use Rattle.std.specs.Option.{option_map};
+ghost use Rattle.vortex_codes.specs.Refusals.{IsOfSize};
 ghost use Rattle.vortex_codes.specs.Keys.{key_at, key_bytes, null_after, same_key, HasKey};
 
 use crate::error::DictError;
@@ -73,6 +74,7 @@ pub(crate) fn next_code(bytes: usize, offsets: usize, piece: &[u8]) -> Result<u3
     requires small { bytes < 2 ^ 32 }
     ensures code { IfOk result (λ c. (c + 1 ≡ offsets) × (c + 2 < 2 ^ 32) × (bytes + length piece.now < 2 ^ 32)) }
     ensures too_large { (result ≡ Err DictError.TooLarge) ↔ (2 ^ 32 ≤ bytes + length piece.now) }
+    ensures errors { IfErr result (λ e. IsOfSize e) }
 {
     if piece.len() > u32::MAX as usize - bytes {
         return Err(DictError::TooLarge);

@@ -1,8 +1,9 @@
 //! Codes in the order of their keys, for keys whose hashes collide.
 
-ghost use Rattle.std.specs.Prelude.{◌≡◌, ℕ, ◌+◌, ◌-◌, ◌^◌, ◌<◌, ◌≤◌, ◌↔◌, List, [], ◌∷◌, ◌++◌, length, IfOk, OnOk, OnErr, Some, None, Err, cond, if◌then◌else◌, is_ok};
+ghost use Rattle.std.specs.Prelude.{◌≡◌, ℕ, ◌+◌, ◌-◌, ◌^◌, ◌<◌, ◌≤◌, ◌↔◌, List, [], ◌∷◌, ◌++◌, length, IfErr, IfOk, OnOk, OnErr, Some, None, Err, cond, if◌then◌else◌, is_ok};
 ghost use Rattle.std.specs.Option.{option_map};
 ghost use Rattle.vortex_codes.specs.Places.{place_of};
+ghost use Rattle.vortex_codes.specs.Refusals.{IsOfSize};
 ghost use Rattle.vortex_codes.specs.Keys.{key_at, keys_of, key_size, same_key};
 ghost use Rattle.vortex_codes.specs.Table.{code_in_order, IsParted, IsApart, IsTree};
 
@@ -85,6 +86,7 @@ pub(crate) fn add_ordered(
     ensures keys { keys_of bytes.new.items offsets.new.items null.new ≡ (if is_ok result then keys_of bytes.old.items offsets.old.items null.old ++ option_map (λ k. k.now) key.entry ∷ [] else keys_of bytes.old.items offsets.old.items null.old) }
     ensures code { IfOk result (λ c. c ≡ length (keys_of bytes.old.items offsets.old.items null.old)) }
     ensures too_large { (result ≡ Err DictError.TooLarge) ↔ (2 ^ 32 ≤ length bytes.old.items + key_size (option_map (λ k. k.now) key.entry)) }
+    ensures errors { IfErr result (λ e. IsOfSize e) }
 {
     let piece = piece_of(key);
     let code = next_code(bytes.len(), offsets.len(), piece)?;

@@ -1,10 +1,11 @@
 //! A table of keys without repeats, found by hash.
 
-ghost use Rattle.std.specs.Prelude.{◌≡◌, ℕ, ◌+◌, ◌-◌, ◌^◌, ◌<◌, ◌≤◌, ◌↔◌, [], ◌∷◌, ◌++◌, length, IfOk, OnOk, OnErr, Err, Some, None, IsTrue, if◌then◌else◌, is_ok};
+ghost use Rattle.std.specs.Prelude.{◌≡◌, ◌==◌, ℕ, ◌+◌, ◌-◌, ◌^◌, ◌<◌, ◌≤◌, ◌↔◌, [], ◌∷◌, ◌++◌, length, IfErr, IfOk, OnOk, OnErr, Err, Some, None, IsTrue, if◌then◌else◌, is_ok};
 ghost use Rattle.std.specs.List.{sum_by, IsDistinct};
 ghost use Rattle.std.specs.Option.{option_map, unwrap_or};
 ghost use Rattle.vortex_codes.specs.Places.{place_of, with_key, code_in};
 ghost use Rattle.vortex_codes.specs.Keys.{keys_of, key_size, same_key};
+ghost use Rattle.vortex_codes.specs.Refusals.{IsOfSize};
 ghost use Rattle.vortex_codes.specs.Table.{IsParted, IsFound};
 
 use crate::error::DictError;
@@ -54,7 +55,8 @@ pub struct Pieces<'a> {
 /// The place of null, where it is a key.
 fn null_of(null: u32) -> Option<u32>
     requires { null < 2 ^ 32 }
-    ensures { unwrap_or result (2 ^ 32 - 1) ≡ null }
+    ensures value { result ≡ (if null == 2 ^ 32 - 1 then None else Some null) }
+    ensures again { unwrap_or result (2 ^ 32 - 1) ≡ null }
 {
     if null == u32::MAX { None } else { Some(null) }
 }
@@ -99,6 +101,7 @@ fn add_to<H: KeyHash>(
     ensures keys { keys_of bytes.new.items offsets.new.items null.new ≡ (if is_ok result then keys_of bytes.old.items offsets.old.items null.old ++ option_map (λ k. k.now) key.entry ∷ [] else keys_of bytes.old.items offsets.old.items null.old) }
     ensures code { IfOk result (λ c. c ≡ length (keys_of bytes.old.items offsets.old.items null.old)) }
     ensures too_large { (result ≡ Err DictError.TooLarge) ↔ (2 ^ 32 ≤ length bytes.old.items + key_size (option_map (λ k. k.now) key.entry)) }
+    ensures errors { IfErr result (λ e. IsOfSize e) }
 {
     if let Some(codes) = ordered {
         return add_ordered(codes, bytes, offsets, null, key);
@@ -166,6 +169,7 @@ impl<H: KeyHash> CodeTable<H> {
     pub fn pieces(&self) -> Pieces<'_>
         ensures keys { keys_of result.bytes.now result.offsets.now (unwrap_or result.null (2 ^ 32 - 1)) ≡ self.now }
         ensures parted { IsParted result.bytes.now result.offsets.now (unwrap_or result.null (2 ^ 32 - 1)) }
+        ensures null { result.null ≡ place_of same_key None self.now }
     {
         Pieces {
             bytes: self.bytes.as_slice(),
@@ -202,6 +206,7 @@ impl<H: KeyHash> CodeTable<H> {
         ensures place { IfOk result (λ c. c ≡ length self.old) }
         ensures stays { OnErr result (self.new ≡ self.old) }
         ensures too_large { (result ≡ Err DictError.TooLarge) ↔ (2 ^ 32 ≤ sum_by key_size self.old + key_size (option_map (λ k. k.now) key.entry)) }
+        ensures errors { IfErr result (λ e. IsOfSize e) }
     {
         let hash = self.hash.hash(key);
         let code = add_to(
@@ -228,7 +233,8 @@ impl<H: KeyHash> CodeTable<H> {
         ensures code { IfOk result (λ o. o ≡ (if may_add then Some (code_in same_key self.old (option_map (λ k. k.now) key.entry)) else place_of same_key (option_map (λ k. k.now) key.entry) self.old)) }
         ensures stays { OnErr result (self.new ≡ self.old) }
         ensures new { OnErr result (IsTrue may_add × (place_of same_key (option_map (λ k. k.now) key.entry) self.old ≡ None)) }
-        ensures too_large { result ≡ Err DictError.TooLarge → 2 ^ 32 ≤ sum_by key_size self.old + key_size (option_map (λ k. k.now) key.entry) }
+        ensures too_large { (result ≡ Err DictError.TooLarge) ↔ (IsTrue may_add × (place_of same_key (option_map (λ k. k.now) key.entry) self.old ≡ None) × (2 ^ 32 ≤ sum_by key_size self.old + key_size (option_map (λ k. k.now) key.entry))) }
+        ensures errors { IfErr result (λ e. IsOfSize e) }
     {
         let hash = self.hash.hash(key);
         let found = code_at(
