@@ -1,6 +1,8 @@
 -- Why a table refuses a key: `IsOfSize`.
 use Rattle.vortex_codes.specs.declared.error.DictError.{DictError}
-use Rattle.vortex_codes.specs.declared.error.DictError.TheVariants.{CannotEncode, TypeMismatch, NotAll, CastRefused, TooLarge, OutOfMemory}
+use Rattle.vortex_codes.specs.declared.error.DictError.TheVariants.{CannotEncode, TypeMismatch}
+use Rattle.vortex_codes.specs.declared.error.DictError.TheVariants.{NotAll, CastRefused, TooLarge}
+use Rattle.vortex_codes.specs.declared.error.DictError.TheVariants.{OutOfMemory}
 
 -- the bytes of the keys would be too many, or memory ran out
 abbrev pub IsOfSize : DictError → Type 0
