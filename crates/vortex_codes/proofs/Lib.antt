@@ -1,4 +1,5 @@
 pub mod KeyLemmas
+pub mod NullLemmas
 pub mod OrderLemmas
 pub mod PlaceLemmas
 pub mod SlotLemmas

@@ -1,5 +1,7 @@
 -- Codes in the order of their keys.
-use Rattle.std.proofs.Common.{◌≡◌, ◌==◌, ℕ, suc, ◌+◌, ◌-◌, ◌^◌, ◌<◌, inl, inr, Bool, true, false, true≢false, cond, Option, Some, None, List, [], ◌∷◌, ◌++◌, length, get_or, refl, ap, sym, ◌∙◌, subst, arith, Vec, Global, BTreeMap}
+use Rattle.std.proofs.Common.{◌≡◌, ◌==◌, ℕ, suc, ◌+◌, ◌-◌, ◌^◌, ◌<◌, inl, inr, Bool, true, false}
+use Rattle.std.proofs.Common.{true≢false, cond, Option, Some, None, List, [], ◌∷◌, ◌++◌, length}
+use Rattle.std.proofs.Common.{get_or, refl, ap, sym, ◌∙◌, subst, arith, Vec, Global, BTreeMap}
 use Rattle.std.specs.Cmp.{both_ways}
 use Rattle.std.specs.Cmp.Lexicographic.{slice_cmp}
 use Rattle.std.specs.declared.cmp.Ordering.{Ordering}
@@ -15,7 +17,8 @@ use Rattle.std.proofs.lemmas.Slice.Eq.{bytes_eq-Decides}
 use Rattle.vortex_codes.specs.Places.{place_of}
 use Rattle.vortex_codes.specs.Keys.{Key, same_key, key_bytes, null_after, key_at, keys_of}
 use Rattle.vortex_codes.specs.Table.{IsParted, IsApart, code_in_order, IsOrder, IsTree}
-use Rattle.vortex_codes.proofs.KeyLemmas.{same_key-Decides, key_before, key_end, count', parted_more, apart_more, keys_more}
+use Rattle.vortex_codes.proofs.KeyLemmas.{same_key-Decides, key_before, key_end, count'}
+use Rattle.vortex_codes.proofs.KeyLemmas.{parted_more, apart_more, keys_more}
 use Rattle.vortex_codes.proofs.PlaceLemmas.{placed_key, unplaced_key, none_key}
 
 -- ---- a map from bytes, with one more

@@ -1,9 +1,12 @@
 -- Walks round slots.
-use Rattle.std.proofs.Common.{◌≡◌, ◌≢◌, ℕ, zero, suc, ◌+◌, ◌-◌, ◌<◌, ◌≤◌, ◌⊎◌, inl, inr, Bool, true, false, List, [], ◌∷◌, length, get_or, set, refl, ap, sym, ◌∙◌, arith, true≢false, get_or-set_same, get_or-set_other}
+use Rattle.std.proofs.Common.{◌≡◌, ◌≢◌, ℕ, zero, suc, ◌+◌, ◌-◌, ◌<◌, ◌≤◌, ◌⊎◌, inl, inr, Bool, true}
+use Rattle.std.proofs.Common.{false, List, [], ◌∷◌, length, get_or, set, refl, ap, sym, ◌∙◌, arith}
+use Rattle.std.proofs.Common.{true≢false, get_or-set_same, get_or-set_other}
 use Rattle.std.proofs.lemmas.Bool.{cases_eq, cases_lt, cases_order}
 use Rattle.std.proofs.lemmas.List.{length-set}
 use Rattle.std.proofs.lemmas.List.Sums.{sum_by-cons, sum_by-set}
-use Rattle.vortex_codes.specs.Slots.{Passed, Walked, Taken, IsPlaced, IsFilled, free_one, free_count}
+use Rattle.vortex_codes.specs.Slots.{Passed, Walked, Taken, IsPlaced, IsFilled, free_one}
+use Rattle.vortex_codes.specs.Slots.{free_count}
 
 pub passed_more : (finds : ℕ → Bool) (slots : List ℕ) (a b s : ℕ) → Passed finds slots a b → s ≡ get_or slots b 0 → s ≢ 0 → finds (s - 1) ≡ false → Passed finds slots a (b + 1)
 passed_more finds slots a b zero p e h m q l u = absurd (h refl)

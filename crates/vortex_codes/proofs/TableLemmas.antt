@@ -1,12 +1,15 @@
 -- The index of a table as codes are added.
-use Rattle.std.proofs.Common.{◌≡◌, ◌≢◌, ℕ, zero, suc, ◌+◌, ◌-◌, ◌^◌, ◌<◌, inl, inr, Bool, true, true≢false, Option, Some, None, Vec, Global, BTreeMap, List, [], ◌∷◌, ◌++◌, replicate, length, get_or, refl, ap, sym, subst, ◌∙◌, arith}
+use Rattle.std.proofs.Common.{◌≡◌, ◌≢◌, ℕ, zero, suc, ◌+◌, ◌-◌, ◌^◌, ◌<◌, inl, inr, Bool, true}
+use Rattle.std.proofs.Common.{true≢false, Option, Some, None, Vec, Global, BTreeMap, List, [], ◌∷◌}
+use Rattle.std.proofs.Common.{◌++◌, replicate, length, get_or, refl, ap, sym, subst, ◌∙◌, arith}
 use Rattle.std.proofs.lemmas.Bool.{cases_eq}
 use Rattle.std.proofs.lemmas.List.{length-replicate}
 use Rattle.std.proofs.lemmas.List.Folds.{sum_by-replicate}
 use Rattle.vortex_codes.specs.Keys.{Key, key_at, keys_of, key_bytes, null_after, same_key}
 use Rattle.vortex_codes.specs.Slots.{Taken, Walked, IsPlaced, IsFilled, free_one, free_count}
 use Rattle.vortex_codes.specs.Table.{start_of, IsIndex, IsParted, IsApart, IsTable, IsFound}
-use Rattle.vortex_codes.proofs.KeyLemmas.{same_key-Decides, key_before, key_end, count', parted_more, apart_more, keys_more}
+use Rattle.vortex_codes.proofs.KeyLemmas.{same_key-Decides, key_before, key_end, count'}
+use Rattle.vortex_codes.proofs.KeyLemmas.{parted_more, apart_more, keys_more}
 use Rattle.vortex_codes.proofs.PlaceLemmas.{none_key}
 use Rattle.vortex_codes.specs.Places.{place_of}
 use Rattle.std.specs.Bool.{Decides}

@@ -1,7 +1,9 @@
 -- The number of each error of dictionaries: `error_number`.
 use Rattle.std.specs.Prelude.{ℕ}
 use Rattle.vortex_codes.specs.declared.error.DictError.{DictError}
-use Rattle.vortex_codes.specs.declared.error.DictError.TheVariants.{CannotEncode, TypeMismatch, NotAll, CastRefused, TooLarge, OutOfMemory}
+use Rattle.vortex_codes.specs.declared.error.DictError.TheVariants.{CannotEncode, TypeMismatch}
+use Rattle.vortex_codes.specs.declared.error.DictError.TheVariants.{NotAll, CastRefused, TooLarge}
+use Rattle.vortex_codes.specs.declared.error.DictError.TheVariants.{OutOfMemory}
 
 -- the number of an error
 abbrev pub error_number : DictError → ℕ

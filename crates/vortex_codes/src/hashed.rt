@@ -1,8 +1,10 @@
 //! Codes in slots, each found by the hash of its key.
 
-ghost use Rattle.std.specs.Prelude.{◌≡◌, ◌+◌, ◌-◌, ◌^◌, ◌<◌, ◌≤◌, ◌↔◌, [], ◌∷◌, ◌++◌, length, replicate, IfOk, OnOk, Err, None, if◌then◌else◌, is_ok};
+ghost use Rattle.std.specs.Prelude.{◌≡◌, ◌+◌, ◌-◌, ◌^◌, ◌<◌, ◌≤◌, ◌↔◌, [], ◌∷◌, ◌++◌, length};
+ghost use Rattle.std.specs.Prelude.{replicate, IfErr, IfOk, OnOk, Err, None, if◌then◌else◌, is_ok};
 ghost use Rattle.std.specs.Option.{option_map};
 ghost use Rattle.vortex_codes.specs.Places.{place_of};
+ghost use Rattle.vortex_codes.specs.Refusals.{IsOfSize};
 ghost use Rattle.vortex_codes.specs.Keys.{key_at, keys_of, key_size, same_key};
 ghost use Rattle.vortex_codes.specs.Slots.{free_count, IsFilled, IsPlaced};
 ghost use Rattle.vortex_codes.specs.Table.{start_of, IsIndex, IsParted, IsTable};
@@ -38,7 +40,8 @@ fn fill<H: KeyHash>(slots: &mut [u32], hash: &H, bytes: &[u8], offsets: &[u32], 
     requires parted { IsParted bytes.now offsets.now null }
     requires room { length offsets.now ≤ length slots.old }
     requires free { slots.old ≡ replicate (length slots.old) 0 }
-    ensures { IsIndex (H.hash_of hash.now) (key_at bytes.now offsets.now null) (length offsets.now - 1) slots.new }
+    ensures { IsIndex (H.hash_of hash.now) (key_at bytes.now offsets.now null)
+        (length offsets.now - 1) slots.new }
 {
     let len = slots.len();
     for code in 0..offsets.len() - 1 {
@@ -59,7 +62,8 @@ fn spread<H: KeyHash>(
 ) -> Result<Vec<u32>, AllocError>
     requires parted { IsParted bytes.now offsets.now null }
     requires room { length offsets.now ≤ len }
-    ensures index { IfOk result (λ v. IsIndex (H.hash_of hash.now) (key_at bytes.now offsets.now null) (length offsets.now - 1) v.items) }
+    ensures index { IfOk result (λ v. IsIndex (H.hash_of hash.now)
+        (key_at bytes.now offsets.now null) (length offsets.now - 1) v.items) }
     ensures len { IfOk result (λ v. length v.items ≡ len) }
 {
     let mut slots = vec![in alloc; 0u32; len]?;
@@ -96,7 +100,8 @@ fn make_room<H: KeyHash>(
     Ok(())
 }
 
-/// Puts the code of a key into a free slot, and tells whether it stands far from the start of its walk.
+/// Puts the code of a key into a free slot, and tells whether it stands far from the start of its
+/// walk.
 fn put(slots: &mut Vec<u32>, hash: u64, code: u32) -> bool
     requires fits { code + 1 < 2 ^ 32 }
     requires free { 0 < free_count slots.old.items }
@@ -129,7 +134,8 @@ pub(crate) fn code_of<H: KeyHash>(
 ) -> Option<u32>
     requires hash { hash ≡ H.hash_of hasher.now (option_map (λ k. k.now) key) }
     requires table { IsTable (H.hash_of hasher.now) bytes.now offsets.now null slots.now }
-    ensures { result ≡ place_of same_key (option_map (λ k. k.now) key.entry) (keys_of bytes.now offsets.now null) }
+    ensures { result ≡ place_of same_key (option_map (λ k. k.now) key.entry)
+        (keys_of bytes.now offsets.now null) }
 {
     let count = slots.len();
     if count == 0 {
@@ -161,12 +167,21 @@ pub(crate) fn add_hashed<H: KeyHash>(
     key: Option<&[u8]>,
 ) -> Result<Added, DictError>
     requires hash { hash ≡ H.hash_of hasher.now (option_map (λ k. k.now) key) }
-    requires table { IsTable (H.hash_of hasher.now) bytes.old.items offsets.old.items null.old slots.old.items }
-    requires new { place_of same_key (option_map (λ k. k.now) key) (keys_of bytes.old.items offsets.old.items null.old) ≡ None }
-    ensures table { IsTable (H.hash_of hasher.now) bytes.new.items offsets.new.items null.new slots.new.items }
-    ensures keys { keys_of bytes.new.items offsets.new.items null.new ≡ (if is_ok result then keys_of bytes.old.items offsets.old.items null.old ++ option_map (λ k. k.now) key.entry ∷ [] else keys_of bytes.old.items offsets.old.items null.old) }
-    ensures code { IfOk result (λ a. a.code ≡ length (keys_of bytes.old.items offsets.old.items null.old)) }
-    ensures too_large { (result ≡ Err DictError.TooLarge) ↔ (2 ^ 32 ≤ length bytes.old.items + key_size (option_map (λ k. k.now) key.entry)) }
+    requires table { IsTable (H.hash_of hasher.now) bytes.old.items offsets.old.items null.old
+        slots.old.items }
+    requires new { place_of same_key (option_map (λ k. k.now) key)
+        (keys_of bytes.old.items offsets.old.items null.old) ≡ None }
+    ensures table { IsTable (H.hash_of hasher.now) bytes.new.items offsets.new.items null.new
+        slots.new.items }
+    ensures keys { keys_of bytes.new.items offsets.new.items null.new
+        ≡ (if is_ok result then keys_of bytes.old.items offsets.old.items null.old
+        ++ option_map (λ k. k.now) key.entry ∷ []
+        else keys_of bytes.old.items offsets.old.items null.old) }
+    ensures code { IfOk result (λ a. a.code ≡ length
+        (keys_of bytes.old.items offsets.old.items null.old)) }
+    ensures too_large { (result ≡ Err DictError.TooLarge)
+        ↔ (2 ^ 32 ≤ length bytes.old.items + key_size (option_map (λ k. k.now) key.entry)) }
+    ensures errors { IfErr result (λ e. IsOfSize e) }
 {
     let piece = piece_of(key);
     let code = next_code(bytes.len(), offsets.len(), piece)?;

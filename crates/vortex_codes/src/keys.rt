@@ -1,7 +1,9 @@
 //! Keys whose bytes stand in one buffer. Key i stands from offset i to offset i + 1.
 
-ghost use Rattle.std.specs.Prelude.{◌≡◌, ◌+◌, ◌-◌, ◌^◌, ◌<◌, ◌≤◌, [], ◌∷◌, ◌++◌, length, ◌↔◌, Err, IfOk, OnOk, OnErr, vec_len, vec_capacity};
+ghost use Rattle.std.specs.Prelude.{◌≡◌, ◌+◌, ◌-◌, ◌^◌, ◌<◌, ◌≤◌, [], ◌∷◌, ◌++◌, length, ◌↔◌, Err};
+ghost use Rattle.std.specs.Prelude.{IfErr, IfOk, OnOk, OnErr, vec_len, vec_capacity};
 ghost use Rattle.std.specs.Option.{option_map};
+ghost use Rattle.vortex_codes.specs.Refusals.{IsOfSize};
 ghost use Rattle.vortex_codes.specs.Keys.{key_at, key_bytes, null_after, same_key, HasKey};
 
 use crate::error::DictError;
@@ -51,7 +53,8 @@ pub(crate) struct BytesSought<'a> {
 }
 
 impl<'a> Sought for BytesSought<'a> {
-    ghost finds = { λ s c. same_key (key_at s.bytes.now s.offsets.now s.null c) (option_map (λ k. k.now) s.key) };
+    ghost finds = { λ s c. same_key (key_at s.bytes.now s.offsets.now s.null c)
+        (option_map (λ k. k.now) s.key) };
 
     ghost knows = { λ s c. HasKey s.bytes.now s.offsets.now c };
 
@@ -71,8 +74,10 @@ impl<'a> Sought for BytesSought<'a> {
 pub(crate) fn next_code(bytes: usize, offsets: usize, piece: &[u8]) -> Result<u32, DictError>
     requires some { 0 < offsets }
     requires small { bytes < 2 ^ 32 }
-    ensures code { IfOk result (λ c. (c + 1 ≡ offsets) × (c + 2 < 2 ^ 32) × (bytes + length piece.now < 2 ^ 32)) }
+    ensures code { IfOk result (λ c. (c + 1 ≡ offsets) × (c + 2 < 2 ^ 32)
+        × (bytes + length piece.now < 2 ^ 32)) }
     ensures too_large { (result ≡ Err DictError.TooLarge) ↔ (2 ^ 32 ≤ bytes + length piece.now) }
+    ensures errors { IfErr result (λ e. IsOfSize e) }
 {
     if piece.len() > u32::MAX as usize - bytes {
         return Err(DictError::TooLarge);
@@ -105,7 +110,8 @@ pub(crate) fn push_piece(bytes: &mut Vec<u8>, offsets: &mut Vec<u32>, piece: &[u
     requires room { vec_len bytes.old + length piece.now ≤ vec_capacity bytes.old }
     requires place { vec_len offsets.old < vec_capacity offsets.old }
     ensures bytes { bytes.new.items ≡ bytes.old.items ++ piece.now }
-    ensures offsets { offsets.new.items ≡ offsets.old.items ++ (length bytes.old.items + length piece.now) ∷ [] }
+    ensures offsets { offsets.new.items ≡ offsets.old.items
+        ++ (length bytes.old.items + length piece.now) ∷ [] }
 {
     let end = bytes.len() + piece.len();
     match bytes.extend_from_slice(piece) {
@@ -122,7 +128,8 @@ pub(crate) fn append(
 ) -> Result<(), AllocError>
     requires { length bytes.old.items + length piece.now < 2 ^ 32 }
     ensures bytes { OnOk result (bytes.new.items ≡ bytes.old.items ++ piece.now) }
-    ensures offsets { OnOk result (offsets.new.items ≡ offsets.old.items ++ (length bytes.old.items + length piece.now) ∷ []) }
+    ensures offsets { OnOk result (offsets.new.items ≡ offsets.old.items
+        ++ (length bytes.old.items + length piece.now) ∷ []) }
     ensures bytes_stay { OnErr result (bytes.new.items ≡ bytes.old.items) }
     ensures offsets_stay { OnErr result (offsets.new.items ≡ offsets.old.items) }
 {

@@ -1,8 +1,11 @@
 //! Codes in the order of their keys, for keys whose hashes collide.
 
-ghost use Rattle.std.specs.Prelude.{◌≡◌, ℕ, ◌+◌, ◌-◌, ◌^◌, ◌<◌, ◌≤◌, ◌↔◌, List, [], ◌∷◌, ◌++◌, length, IfOk, OnOk, OnErr, Some, None, Err, cond, if◌then◌else◌, is_ok};
+ghost use Rattle.std.specs.Prelude.{◌≡◌, ℕ, ◌+◌, ◌-◌, ◌^◌, ◌<◌, ◌≤◌, ◌↔◌, List, [], ◌∷◌, ◌++◌};
+ghost use Rattle.std.specs.Prelude.{length, IfErr, IfOk, OnOk, OnErr, Some, None, Err, cond};
+ghost use Rattle.std.specs.Prelude.{if◌then◌else◌, is_ok};
 ghost use Rattle.std.specs.Option.{option_map};
 ghost use Rattle.vortex_codes.specs.Places.{place_of};
+ghost use Rattle.vortex_codes.specs.Refusals.{IsOfSize};
 ghost use Rattle.vortex_codes.specs.Keys.{key_at, keys_of, key_size, same_key};
 ghost use Rattle.vortex_codes.specs.Table.{code_in_order, IsParted, IsApart, IsTree};
 
@@ -18,7 +21,9 @@ fn insert(
     key: Option<&[u8]>,
     code: u32,
 ) -> Result<(), AllocError>
-    ensures inserted { OnOk result ((bs : List ℕ) → code_in_order codes.new bs ≡ cond (same_key (option_map (λ k. k.now) key.entry) (Some bs)) (Some code) (code_in_order codes.old bs)) }
+    ensures inserted { OnOk result ((bs : List ℕ)
+        → code_in_order codes.new bs ≡ cond (same_key (option_map (λ k. k.now) key.entry) (Some bs))
+        (Some code) (code_in_order codes.old bs)) }
     ensures stays { OnErr result (codes.new.entries ≡ codes.old.entries) }
 {
     let Some(piece) = key else {
@@ -57,7 +62,8 @@ pub(crate) fn ordered_code(
     key: Option<&[u8]>,
 ) -> Option<u32>
     requires { IsTree bytes.now offsets.now null codes.now }
-    ensures { result ≡ place_of same_key (option_map (λ k. k.now) key.entry) (keys_of bytes.now offsets.now null) }
+    ensures { result ≡ place_of same_key (option_map (λ k. k.now) key.entry)
+        (keys_of bytes.now offsets.now null) }
 {
     match key {
         Some(piece) => codes.get(piece).copied(),
@@ -80,11 +86,18 @@ pub(crate) fn add_ordered(
     key: Option<&[u8]>,
 ) -> Result<u32, DictError>
     requires table { IsTree bytes.old.items offsets.old.items null.old codes.old }
-    requires new { place_of same_key (option_map (λ k. k.now) key) (keys_of bytes.old.items offsets.old.items null.old) ≡ None }
+    requires new { place_of same_key (option_map (λ k. k.now) key)
+        (keys_of bytes.old.items offsets.old.items null.old) ≡ None }
     ensures table { IsTree bytes.new.items offsets.new.items null.new codes.new }
-    ensures keys { keys_of bytes.new.items offsets.new.items null.new ≡ (if is_ok result then keys_of bytes.old.items offsets.old.items null.old ++ option_map (λ k. k.now) key.entry ∷ [] else keys_of bytes.old.items offsets.old.items null.old) }
-    ensures code { IfOk result (λ c. c ≡ length (keys_of bytes.old.items offsets.old.items null.old)) }
-    ensures too_large { (result ≡ Err DictError.TooLarge) ↔ (2 ^ 32 ≤ length bytes.old.items + key_size (option_map (λ k. k.now) key.entry)) }
+    ensures keys { keys_of bytes.new.items offsets.new.items null.new
+        ≡ (if is_ok result then keys_of bytes.old.items offsets.old.items null.old
+        ++ option_map (λ k. k.now) key.entry ∷ []
+        else keys_of bytes.old.items offsets.old.items null.old) }
+    ensures code { IfOk result (λ c. c ≡ length
+        (keys_of bytes.old.items offsets.old.items null.old)) }
+    ensures too_large { (result ≡ Err DictError.TooLarge)
+        ↔ (2 ^ 32 ≤ length bytes.old.items + key_size (option_map (λ k. k.now) key.entry)) }
+    ensures errors { IfErr result (λ e. IsOfSize e) }
 {
     let piece = piece_of(key);
     let code = next_code(bytes.len(), offsets.len(), piece)?;

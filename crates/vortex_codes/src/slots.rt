@@ -1,6 +1,8 @@
-//! Slots that hold codes, probed by open addressing. A slot is 0 where it is free, and else a code and 1.
+//! Slots that hold codes, probed by open addressing. A slot is 0 where it is free, and else a code
+//! and 1.
 
-ghost use Rattle.std.specs.Prelude.{◌≡◌, ℕ, suc, ◌+◌, ◌-◌, ◌^◌, ◌<◌, ◌≤◌, Bool, true, false, length, slice_index};
+ghost use Rattle.std.specs.Prelude.{◌≡◌, ℕ, suc, ◌+◌, ◌-◌, ◌^◌, ◌<◌, ◌≤◌, Bool, true, false};
+ghost use Rattle.std.specs.Prelude.{length, slice_index};
 ghost use Rattle.vortex_codes.specs.Slots.{Passed, Walked, IsFilled, IsPlaced, free_count};
 
 /// Tells a code that is sought from others.
@@ -39,7 +41,8 @@ fn scan<S: Sought>(slots: &[u32], from: usize, to: usize, sought: &S) -> usize
     ensures from_on { from ≤ result }
     ensures within { result ≤ to }
     ensures passed { Passed (S.finds sought.now) slots.now from result }
-    ensures stops { result < to → (c : ℕ) → slice_index slots.now result ≡ suc c → S.finds sought.now c ≡ true }
+    ensures stops { result < to → (c : ℕ) → slice_index slots.now result ≡ suc c
+        → S.finds sought.now c ≡ true }
 {
     for pos in from..to {
         let slot = slots[pos];
@@ -50,14 +53,16 @@ fn scan<S: Sought>(slots: &[u32], from: usize, to: usize, sought: &S) -> usize
     to
 }
 
-/// The first slot that is free or holds what is sought, in a walk round the slots from `start`, or their number.
+/// The first slot that is free or holds what is sought, in a walk round the slots from `start`, or
+/// their number.
 #[inline(always)]
 pub(crate) fn walk<S: Sought>(slots: &[u32], start: usize, sought: &S) -> usize
     requires in_range { start ≤ length slots.now }
     requires known { (q c : ℕ) → slice_index slots.now q ≡ suc c → S.knows sought.now c }
     ensures within { result ≤ length slots.now }
     ensures walked { Walked (S.finds sought.now) slots.now start result }
-    ensures stops { result < length slots.now → (c : ℕ) → slice_index slots.now result ≡ suc c → S.finds sought.now c ≡ true }
+    ensures stops { result < length slots.now → (c : ℕ) → slice_index slots.now result ≡ suc c
+        → S.finds sought.now c ≡ true }
 {
     let end = slots.len();
     let at = scan(slots, start, end, sought);

@@ -1,10 +1,13 @@
 //! A table of keys without repeats, found by hash.
 
-ghost use Rattle.std.specs.Prelude.{◌≡◌, ℕ, ◌+◌, ◌-◌, ◌^◌, ◌<◌, ◌≤◌, ◌↔◌, [], ◌∷◌, ◌++◌, length, IfOk, OnOk, OnErr, Err, Some, None, IsTrue, if◌then◌else◌, is_ok};
+ghost use Rattle.std.specs.Prelude.{◌≡◌, ◌==◌, ℕ, ◌+◌, ◌-◌, ◌^◌, ◌<◌, ◌≤◌, ◌↔◌, [], ◌∷◌, ◌++◌};
+ghost use Rattle.std.specs.Prelude.{length, IfErr, IfOk, OnOk, OnErr, Err, Some, None, IsTrue};
+ghost use Rattle.std.specs.Prelude.{if◌then◌else◌, is_ok};
 ghost use Rattle.std.specs.List.{sum_by, IsDistinct};
 ghost use Rattle.std.specs.Option.{option_map, unwrap_or};
 ghost use Rattle.vortex_codes.specs.Places.{place_of, with_key, code_in};
 ghost use Rattle.vortex_codes.specs.Keys.{keys_of, key_size, same_key};
+ghost use Rattle.vortex_codes.specs.Refusals.{IsOfSize};
 ghost use Rattle.vortex_codes.specs.Table.{IsParted, IsFound};
 
 use crate::error::DictError;
@@ -17,8 +20,8 @@ use std::marker::Model;
 
 /// Keys without repeats, each with its place as its code.
 ///
-/// A key is found by its hash. Once a code stands far from where the walk for its hash begins, as those of keys that were
-/// chosen to collide do, keys are found by their order instead.
+/// A key is found by its hash. Once a code stands far from where the walk for its hash begins, as
+/// those of keys that were chosen to collide do, keys are found by their order instead.
 #[derive(Drop)]
 pub struct CodeTable<H: KeyHash> {
     hash: H,
@@ -39,10 +42,12 @@ impl<H: KeyHash> Model for CodeTable<H> {
 
     ghost view = { λ t. keys_of t.bytes.items t.offsets.items t.null };
 
-    ghost invariant = { λ t. IsFound (H.hash_of t.hash) t.bytes.items t.offsets.items t.null t.slots.items t.ordered };
+    ghost invariant = { λ t. IsFound (H.hash_of t.hash) t.bytes.items t.offsets.items t.null
+        t.slots.items t.ordered };
 }
 
-/// Keys in one buffer: key i stands from offset i to offset i + 1, and null, where it is a key, is an empty piece.
+/// Keys in one buffer: key i stands from offset i to offset i + 1, and null, where it is a key, is
+/// an empty piece.
 #[derive(Drop)]
 pub struct Pieces<'a> {
     pub bytes: &'a [u8],
@@ -54,7 +59,8 @@ pub struct Pieces<'a> {
 /// The place of null, where it is a key.
 fn null_of(null: u32) -> Option<u32>
     requires { null < 2 ^ 32 }
-    ensures { unwrap_or result (2 ^ 32 - 1) ≡ null }
+    ensures value { result ≡ (if null == 2 ^ 32 - 1 then None else Some null) }
+    ensures again { unwrap_or result (2 ^ 32 - 1) ≡ null }
 {
     if null == u32::MAX { None } else { Some(null) }
 }
@@ -72,8 +78,10 @@ fn code_at<H: KeyHash>(
     key: Option<&[u8]>,
 ) -> Option<u32>
     requires hash { hash ≡ H.hash_of hasher.now (option_map (λ k. k.now) key) }
-    requires table { IsFound (H.hash_of hasher.now) bytes.now offsets.now null slots.now ordered.now }
-    ensures { result ≡ place_of same_key (option_map (λ k. k.now) key.entry) (keys_of bytes.now offsets.now null) }
+    requires table { IsFound (H.hash_of hasher.now) bytes.now offsets.now null slots.now
+        ordered.now }
+    ensures { result ≡ place_of same_key (option_map (λ k. k.now) key.entry)
+        (keys_of bytes.now offsets.now null) }
 {
     match ordered {
         None => code_of(slots, hasher, hash, bytes, offsets, null, key),
@@ -93,12 +101,21 @@ fn add_to<H: KeyHash>(
     key: Option<&[u8]>,
 ) -> Result<u32, DictError>
     requires hash { hash ≡ H.hash_of hasher.now (option_map (λ k. k.now) key) }
-    requires table { IsFound (H.hash_of hasher.now) bytes.old.items offsets.old.items null.old slots.old.items ordered.old }
-    requires new { place_of same_key (option_map (λ k. k.now) key) (keys_of bytes.old.items offsets.old.items null.old) ≡ None }
-    ensures table { IsFound (H.hash_of hasher.now) bytes.new.items offsets.new.items null.new slots.new.items ordered.new }
-    ensures keys { keys_of bytes.new.items offsets.new.items null.new ≡ (if is_ok result then keys_of bytes.old.items offsets.old.items null.old ++ option_map (λ k. k.now) key.entry ∷ [] else keys_of bytes.old.items offsets.old.items null.old) }
-    ensures code { IfOk result (λ c. c ≡ length (keys_of bytes.old.items offsets.old.items null.old)) }
-    ensures too_large { (result ≡ Err DictError.TooLarge) ↔ (2 ^ 32 ≤ length bytes.old.items + key_size (option_map (λ k. k.now) key.entry)) }
+    requires table { IsFound (H.hash_of hasher.now) bytes.old.items offsets.old.items null.old
+        slots.old.items ordered.old }
+    requires new { place_of same_key (option_map (λ k. k.now) key)
+        (keys_of bytes.old.items offsets.old.items null.old) ≡ None }
+    ensures table { IsFound (H.hash_of hasher.now) bytes.new.items offsets.new.items null.new
+        slots.new.items ordered.new }
+    ensures keys { keys_of bytes.new.items offsets.new.items null.new
+        ≡ (if is_ok result then keys_of bytes.old.items offsets.old.items null.old
+        ++ option_map (λ k. k.now) key.entry ∷ []
+        else keys_of bytes.old.items offsets.old.items null.old) }
+    ensures code { IfOk result (λ c. c ≡ length
+        (keys_of bytes.old.items offsets.old.items null.old)) }
+    ensures too_large { (result ≡ Err DictError.TooLarge)
+        ↔ (2 ^ 32 ≤ length bytes.old.items + key_size (option_map (λ k. k.now) key.entry)) }
+    ensures errors { IfErr result (λ e. IsOfSize e) }
 {
     if let Some(codes) = ordered {
         return add_ordered(codes, bytes, offsets, null, key);
@@ -164,8 +181,11 @@ impl<H: KeyHash> CodeTable<H> {
 
     /// The keys in one buffer.
     pub fn pieces(&self) -> Pieces<'_>
-        ensures keys { keys_of result.bytes.now result.offsets.now (unwrap_or result.null (2 ^ 32 - 1)) ≡ self.now }
-        ensures parted { IsParted result.bytes.now result.offsets.now (unwrap_or result.null (2 ^ 32 - 1)) }
+        ensures keys { keys_of result.bytes.now result.offsets.now
+            (unwrap_or result.null (2 ^ 32 - 1)) ≡ self.now }
+        ensures parted { IsParted result.bytes.now result.offsets.now
+            (unwrap_or result.null (2 ^ 32 - 1)) }
+        ensures null { result.null ≡ place_of same_key None self.now }
     {
         Pieces {
             bytes: self.bytes.as_slice(),
@@ -198,10 +218,13 @@ impl<H: KeyHash> CodeTable<H> {
     /// Adds a key that is not there, and answers its place. After a refusal the table is as it was.
     pub fn add(&mut self, key: Option<&[u8]>) -> Result<u64, DictError>
         requires { place_of same_key (option_map (λ k. k.now) key) self.old ≡ None }
-        ensures added { OnOk result (self.new ≡ self.old ++ option_map (λ k. k.now) key.entry ∷ []) }
+        ensures added { OnOk result (self.new ≡ self.old
+            ++ option_map (λ k. k.now) key.entry ∷ []) }
         ensures place { IfOk result (λ c. c ≡ length self.old) }
         ensures stays { OnErr result (self.new ≡ self.old) }
-        ensures too_large { (result ≡ Err DictError.TooLarge) ↔ (2 ^ 32 ≤ sum_by key_size self.old + key_size (option_map (λ k. k.now) key.entry)) }
+        ensures too_large { (result ≡ Err DictError.TooLarge)
+            ↔ (2 ^ 32 ≤ sum_by key_size self.old + key_size (option_map (λ k. k.now) key.entry)) }
+        ensures errors { IfErr result (λ e. IsOfSize e) }
     {
         let hash = self.hash.hash(key);
         let code = add_to(
@@ -217,18 +240,27 @@ impl<H: KeyHash> CodeTable<H> {
         Ok(u64::from(code))
     }
 
-    /// The place of the key, which is added where it is new and may be added, or nothing where it is new and may not.
+    /// The place of the key, which is added where it is new and may be added, or nothing where it
+    /// is new and may not.
     #[inline(always)]
     pub fn find_or_add(
         &mut self,
         key: Option<&[u8]>,
         may_add: bool,
     ) -> Result<Option<u32>, DictError>
-        ensures keys { OnOk result (self.new ≡ (if may_add then with_key same_key self.old (option_map (λ k. k.now) key.entry) else self.old)) }
-        ensures code { IfOk result (λ o. o ≡ (if may_add then Some (code_in same_key self.old (option_map (λ k. k.now) key.entry)) else place_of same_key (option_map (λ k. k.now) key.entry) self.old)) }
+        ensures keys { OnOk result (self.new ≡ (if may_add
+            then with_key same_key self.old (option_map (λ k. k.now) key.entry) else self.old)) }
+        ensures code { IfOk result (λ o. o ≡ (if may_add
+            then Some (code_in same_key self.old (option_map (λ k. k.now) key.entry))
+            else place_of same_key (option_map (λ k. k.now) key.entry) self.old)) }
         ensures stays { OnErr result (self.new ≡ self.old) }
-        ensures new { OnErr result (IsTrue may_add × (place_of same_key (option_map (λ k. k.now) key.entry) self.old ≡ None)) }
-        ensures too_large { result ≡ Err DictError.TooLarge → 2 ^ 32 ≤ sum_by key_size self.old + key_size (option_map (λ k. k.now) key.entry) }
+        ensures new { OnErr result (IsTrue may_add
+            × (place_of same_key (option_map (λ k. k.now) key.entry) self.old ≡ None)) }
+        ensures too_large { (result ≡ Err DictError.TooLarge)
+            ↔ (IsTrue may_add
+            × (place_of same_key (option_map (λ k. k.now) key.entry) self.old ≡ None)
+            × (2 ^ 32 ≤ sum_by key_size self.old + key_size (option_map (λ k. k.now) key.entry))) }
+        ensures errors { IfErr result (λ e. IsOfSize e) }
     {
         let hash = self.hash.hash(key);
         let found = code_at(

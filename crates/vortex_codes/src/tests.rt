@@ -1,6 +1,5 @@
-ghost use Rattle.vortex_codes.specs.Hash.{fnv_of};
-
 use super::*;
+use std::alloc::Global;
 use std::cell::Cell;
 use std::test::Fail;
 
@@ -18,16 +17,17 @@ impl KeyHash for OneHash {
 
 /// Counts the calls of another hash function.
 #[derive(Drop)]
-struct CountedHash<'a> {
+struct CountedHash<'a, H: KeyHash> {
+    hash: H,
     calls: &'a Cell<u64>,
 }
 
-impl<'a> KeyHash for CountedHash<'a> {
-    ghost hash_of = { λ s key. fnv_of key };
+impl<'a, H: KeyHash> KeyHash for CountedHash<'a, H> {
+    ghost hash_of = { λ s key. H.hash_of s.hash key };
 
     fn hash(&self, key: Option<&[u8]>) -> u64 {
         self.calls.set(self.calls.get().wrapping_add(1));
-        BytesHash.hash(key)
+        self.hash.hash(key)
     }
 }
 
@@ -94,18 +94,34 @@ fn many_keys_of_one_hash(rt: HostRuntime) -> Result<(), Fail> {
     Ok(())
 }
 
-#[test]
-fn calls_of_the_hash(rt: HostRuntime) -> Result<(), Fail> {
+/// How often a hash function is called where 1,000 keys are added and then found.
+fn calls<H: KeyHash + Drop>(alloc: Global, hash: H) -> Result<u64, DictError> {
     let calls = Cell::new(0u64);
-    let mut table = CodeTable::new(rt.alloc(), CountedHash { calls: &calls })?;
+    let mut table = CodeTable::new(
+        alloc,
+        CountedHash {
+            hash,
+            calls: &calls,
+        },
+    )?;
     for n in 0..1000 {
         let _place = table.find_or_add(Some(key_of(n).as_slice()), true)?;
     }
     for n in 0..1000 {
-        assert_eq!(rt; table.find(Some(key_of(n).as_slice())), Some(u64::from(n)));
+        let _place = table.find(Some(key_of(n).as_slice()));
     }
-    assert!(rt; calls.get() >= 2000);
-    assert!(rt; calls.get() <= 10_000);
+    Ok(calls.get())
+}
+
+/// Each call hashes its key. Slots that double whenever they are half full, from 16 on, hash 8, 16,
+/// 32 .. 512 keys anew, 1,016 in all. Keys of one hash are found by their order before 256 stand
+/// there, so that at most 8, 16 .. 128 were hashed anew.
+#[test]
+fn calls_of_the_hash(rt: HostRuntime) -> Result<(), Fail> {
+    let spread = calls(rt.alloc(), BytesHash)?;
+    assert!(rt; (2900..=10_000).contains(&spread));
+    let alike = calls(rt.alloc(), OneHash)?;
+    assert!(rt; (2000..=2500).contains(&alike));
     Ok(())
 }
 
@@ -125,6 +141,20 @@ fn keys_in_one_buffer(rt: HostRuntime) -> Result<(), Fail> {
     Ok(())
 }
 
+/// Where null is no key, it has no place.
+#[test]
+fn no_null_in_one_buffer(rt: HostRuntime) -> Result<(), Fail> {
+    let mut table = CodeTable::new(rt.alloc(), BytesHash)?;
+    assert_eq!(rt; table.pieces().null, None);
+    assert_eq!(rt; table.pieces().offsets, [0u32].as_slice());
+    let _place = table.find_or_add(Some(b""), true)?;
+    assert_eq!(rt; table.pieces().null, None);
+    assert_eq!(rt; table.pieces().offsets, [0u32, 0].as_slice());
+    let _place = table.find_or_add(None, true)?;
+    assert_eq!(rt; table.pieces().null, Some(1));
+    Ok(())
+}
+
 /// From the definition of FNV-1a in 64 bits, at the texts of its authors' list of vectors.
 #[test]
 fn bytes_are_hashed_by_fnv(rt: HostRuntime) -> Result<(), Fail> {
@@ -135,17 +165,32 @@ fn bytes_are_hashed_by_fnv(rt: HostRuntime) -> Result<(), Fail> {
     Ok(())
 }
 
+/// The number and the text of an error are these.
+fn is_told(alloc: Global, error: DictError, number: u8, text: &str) -> Result<bool, Fail> {
+    let told = format!(in alloc; "{error}")?;
+    Ok(error.number() == number && told.as_str() == text)
+}
+
 #[test]
 fn errors(rt: HostRuntime) -> Result<(), Fail> {
     let not_all = DictError::NotAll {
         encoded: 3,
         rows: 5,
     };
-    let text = format!(in rt.alloc(); "{not_all}, {}", DictError::TooLarge)?;
-    assert_eq!(rt;
-        text.as_str(),
-        "encoded 3 of 5 rows, the dictionary is too large"
+    let cast = DictError::CastRefused { row: 7 };
+    let large = "the dictionary is too large";
+    assert!(rt;
+        is_told(
+            rt.alloc(),
+            DictError::CannotEncode,
+            1,
+            "cannot encode such an array"
+        )?
     );
-    assert_eq!(rt; not_all.number(), 3);
+    assert!(rt; is_told(rt.alloc(), DictError::TypeMismatch, 2, "types differ")?);
+    assert!(rt; is_told(rt.alloc(), not_all, 3, "encoded 3 of 5 rows")?);
+    assert!(rt; is_told(rt.alloc(), cast, 4, "row 7 cannot be cast")?);
+    assert!(rt; is_told(rt.alloc(), DictError::TooLarge, 5, large)?);
+    assert!(rt; is_told(rt.alloc(), DictError::OutOfMemory, 6, "out of memory")?);
     Ok(())
 }

@@ -1,5 +1,8 @@
 -- What an encoder of bytes keeps, with one key more.
-use Rattle.std.proofs.Common.{◌≡◌, ◌==◌, ℕ, suc, ◌+◌, ◌*◌, ◌<◌, ◌≤◌, inl, inr, Bool, true, false, not, ◌&&◌, ◌||◌, cond, true≢false, nat_le, nat_lt, Option, Some, None, List, [], ◌∷◌, ◌++◌, map, length, refl, ap, sym, ◌∙◌, subst, arith, pos, IsTrue}
+use Rattle.std.proofs.Common.{◌≡◌, ◌==◌, ℕ, suc, ◌+◌, ◌*◌, ◌<◌, ◌≤◌, inl, inr, Bool, true, false}
+use Rattle.std.proofs.Common.{not, ◌&&◌, ◌||◌, cond, true≢false, nat_le, nat_lt, Option, Some, None}
+use Rattle.std.proofs.Common.{List, [], ◌∷◌, ◌++◌, map, length, refl, ap, sym, ◌∙◌, subst, arith}
+use Rattle.std.proofs.Common.{pos, IsTrue}
 use Rattle.std.specs.List.{sum_by}
 use Rattle.std.specs.Option.{option_map, is_some, unwrap_or}
 use Rattle.std.proofs.lemmas.Bool.{cases_lt, eqb-true, eq-eqb}
@@ -11,7 +14,8 @@ use Rattle.vortex_terms.specs.Row.{Row, is_null}
 use Rattle.vortex_codes.specs.Keys.{Key, key_size, same_key}
 use Rattle.vortex_codes.specs.Places.{place_of, with_key, code_in}
 use Rattle.vortex_dict.specs.KeyRows.{bytes_or_null}
-use Rattle.vortex_dict.specs.Limits.{byte_count, counted, over_by, bytes_over, HasCodes}
+use Rattle.vortex_dict.specs.Limits.{byte_count, counted, over_by, bytes_over}
+use Rattle.vortex_dict.specs.inner.Kept.{HasCodes}
 
 -- ---- sums
 

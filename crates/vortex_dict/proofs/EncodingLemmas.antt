@@ -1,5 +1,7 @@
 -- Rows as values and codes, one row on and at the end.
-use Rattle.std.proofs.Common.{◌≡◌, ℕ, ◌+◌, ◌^◌, ◌<◌, ◌≤◌, inl, inr, Bool, true, false, not, ◌&&◌, ◌||◌, cond, true≢false, Some, None, List, [], ◌∷◌, ◌++◌, length, take, get_or, refl, ap, sym, ◌∙◌, subst, arith}
+use Rattle.std.proofs.Common.{◌≡◌, ℕ, ◌+◌, ◌^◌, ◌<◌, ◌≤◌, inl, inr, Bool, true, false, not, ◌&&◌}
+use Rattle.std.proofs.Common.{◌||◌, cond, true≢false, Some, None, List, [], ◌∷◌, ◌++◌, length, take}
+use Rattle.std.proofs.Common.{get_or, refl, ap, sym, ◌∙◌, subst, arith}
 use Rattle.std.specs.List.{sum_by}
 use Rattle.std.proofs.lemmas.Bool.{cases_lt}
 use Rattle.std.proofs.lemmas.List.{append-nil, append_assoc, length-append, take_more}
@@ -7,7 +9,8 @@ use Rattle.std.proofs.lemmas.List.Sums.{sum_by-cons, sum_by-append}
 use Rattle.vortex_terms.specs.Row.{Row, null_row}
 use Rattle.vortex_terms.specs.Distinct.{distinct, first_place, codes_of}
 use Rattle.vortex_terms.specs.DistinctLaws.{distinct-push, distinct-stands, codes_of-push}
-use Rattle.vortex_dict.specs.Encoding.{stands, is_stop, stops_at, Encodes, EncodesPart, PassesSize, EncodesValue}
+use Rattle.vortex_dict.specs.Encoding.{stands, is_stop, stops_at, Encodes, EncodesPart, PassesSize}
+use Rattle.vortex_dict.specs.inner.Step.{EncodesValue}
 
 module _ (over : List Row → Row → Bool) (held rows : List Row) where
   -- what is known after the first i rows

@@ -1,5 +1,7 @@
 -- What encodings without stops are, and that no dictionary is shorter.
-use Rattle.std.proofs.Common.{◌≡◌, ℕ, ◌+◌, ◌-◌, ◌^◌, ◌<◌, ◌≤◌, nat_lt, nat_le, ◌||◌, inl, inr, Bool, true, false, not, ◌&&◌, true≢false, Some, List, [], ◌∷◌, map, length, take, get_or, refl, ap, sym, ◌∙◌, arith}
+use Rattle.std.proofs.Common.{◌≡◌, ℕ, ◌+◌, ◌-◌, ◌^◌, ◌<◌, ◌≤◌, nat_lt, nat_le, ◌||◌, inl, inr, Bool}
+use Rattle.std.proofs.Common.{true, false, not, ◌&&◌, true≢false, Some, List, [], ◌∷◌, map, length}
+use Rattle.std.proofs.Common.{take, get_or, refl, ap, sym, subst, ◌∙◌, arith}
 use Rattle.std.specs.List.{slice_get, sum_by, AllByRecursion}
 use Rattle.std.proofs.lemmas.Bool.{cases_lt}
 use Rattle.std.proofs.lemmas.List.{take_all}
@@ -9,14 +11,16 @@ use Rattle.std.proofs.lemmas.Bool.{ltb-true, lt-ltb, leb-true}
 use Rattle.vortex_number.specs.Format.{unsigned}
 use Rattle.vortex_number.specs.PType.{byte_width_of}
 use Rattle.vortex_number.specs.declared.ptype.PType.{PType}
-use Rattle.vortex_number.specs.declared.ptype.PType.TheVariants.{U8, U16, U32, U64, I8, I16, I32, I64}
+use Rattle.vortex_number.specs.declared.ptype.PType.TheVariants.{U8, U16, U32, U64, I8, I16, I32}
+use Rattle.vortex_number.specs.declared.ptype.PType.TheVariants.{I64}
 use Rattle.vortex_dict.specs.declared.constraints.DictConstraints.{DictConstraints}
-use Rattle.vortex_dict.specs.Limits.{byte_count, counted, bytes_over, numbers_over}
+use Rattle.vortex_dict.specs.Limits.{Dictionary, byte_count, counted, bytes_over, numbers_over}
 use Rattle.vortex_dict.proofs.BytesLemmas.{counted_bound, counted_most}
 use Rattle.vortex_terms.specs.Row.{Row, null_row, is_null}
 use Rattle.vortex_terms.specs.Distinct.{distinct, codes_of}
 use Rattle.vortex_terms.specs.DistinctLaws.{distinct-shortest}
-use Rattle.vortex_dict.specs.Encoding.{stands, stops_at, Encodes}
+use Rattle.vortex_dict.specs.Encoding.{stands, stops_at, Encodes, PassesSize}
+use Rattle.vortex_dict.proofs.SizeLemmas.{all_too_large}
 
 module _ (over : List Row → Row → Bool) (rows values : List Row) (codes : List ℕ) (e : Encodes over [] rows values codes) where
   never : ((i : ℕ) → i < length rows → over values (get_or rows i null_row) ≡ false) → length codes < length rows → stops_at over [] rows (length codes) ≡ true → ⊥
@@ -112,3 +116,63 @@ numbers_no_limits U32 values r n = few_places (2 ^ 62 - 1) (length values) n (om
 numbers_no_limits I32 values r n = few_places (2 ^ 62 - 1) (length values) n (omega arith)
 numbers_no_limits U64 values r n = few_places (2 ^ 61 - 1) (length values) n (omega arith)
 numbers_no_limits I64 values r n = few_places (2 ^ 61 - 1) (length values) n (omega arith)
+
+-- ---- whole columns
+
+pub whole_bytes : (rows values : List Row) (codes : List ℕ)
+    → Encodes (bytes_over (unsigned w64) no_limits) [] rows values codes → length values < 2 ^ 32
+    → sum_by byte_count values < 2 ^ 32
+    → ((i : ℕ) → i < length rows → byte_count (get_or rows i null_row) < 2 ^ 63)
+    → (values ≡ distinct rows) × (codes ≡ codes_of rows)
+whole_bytes rows values codes e n s h =
+    let over = bytes_over (unsigned w64) no_limits in
+    let within = λ (i : ℕ) (l : i < length rows). bytes_no_limits values (get_or rows i null_row) n s (h i l) in
+    let all = all_encoded over rows values codes e within in
+    (values_distinct over rows values codes e all, codes_distinct over rows values codes e all)
+
+pub whole_numbers : (kind : PType) (rows values : List Row) (codes : List ℕ)
+    → Encodes (numbers_over (unsigned w64) (byte_width_of kind) no_limits) [] rows values codes
+    → length values < 2 ^ 32 → (values ≡ distinct rows) × (codes ≡ codes_of rows)
+whole_numbers kind rows values codes e n =
+    let over = numbers_over (unsigned w64) (byte_width_of kind) no_limits in
+    let within = λ (i : ℕ) (l : i < length rows). numbers_no_limits kind values (get_or rows i null_row) n in
+    let all = all_encoded over rows values codes e within in
+    (values_distinct over rows values codes e all, codes_distinct over rows values codes e all)
+
+-- what a new encoder without limits makes
+
+abbrev unlimited : Dictionary
+unlimited = record { values = []; constraints = no_limits }
+
+pub bytes_whole : (d : Dictionary) (rows values : List Row) (codes codes' : List ℕ) → d ≡ unlimited
+    → Encodes (bytes_over (unsigned w64) d.constraints) d.values rows values codes' → codes' ≡ codes
+    → length values < 2 ^ 32 → sum_by byte_count values < 2 ^ 32
+    → ((i : ℕ) → i < length rows → byte_count (get_or rows i null_row) < 2 ^ 63)
+    → (values ≡ distinct rows) × (codes ≡ codes_of rows)
+bytes_whole d rows values codes codes' m e c n s h =
+    let made = subst (λ k. Encodes (bytes_over (unsigned w64) k.constraints) k.values rows values codes') m e in
+    let all = whole_bytes rows values codes' made n s h in
+    (all.0, sym c ∙ all.1)
+
+pub bytes_large : (d : Dictionary) (rows : List Row) → d ≡ unlimited
+    → PassesSize (bytes_over (unsigned w64) d.constraints) byte_count d.values rows
+    → 2 ^ 32 ≤ sum_by byte_count (distinct rows)
+bytes_large d rows m p =
+    all_too_large byte_count (bytes_over (unsigned w64) no_limits) rows
+    (subst (λ k. PassesSize (bytes_over (unsigned w64) k.constraints) byte_count k.values rows) m p)
+
+pub numbers_whole : (kind : PType) (d : Dictionary) (rows values : List Row) (codes codes' : List ℕ)
+    → d ≡ unlimited
+    → Encodes (numbers_over (unsigned w64) (byte_width_of kind) d.constraints) d.values rows values codes'
+    → codes' ≡ codes → length values < 2 ^ 32 → (values ≡ distinct rows) × (codes ≡ codes_of rows)
+numbers_whole kind d rows values codes codes' m e c n =
+    let made = subst (λ k. Encodes (numbers_over (unsigned w64) (byte_width_of kind) k.constraints) k.values rows values codes') m e in
+    let all = whole_numbers kind rows values codes' made n in
+    (all.0, sym c ∙ all.1)
+
+pub numbers_large : (kind : PType) (d : Dictionary) (rows : List Row) → d ≡ unlimited
+    → PassesSize (numbers_over (unsigned w64) (byte_width_of kind) d.constraints) (λ r. byte_width_of kind) d.values rows
+    → 2 ^ 32 ≤ sum_by (λ r. byte_width_of kind) (distinct rows)
+numbers_large kind d rows m p =
+    all_too_large (λ r. byte_width_of kind) (numbers_over (unsigned w64) (byte_width_of kind) no_limits) rows
+    (subst (λ k. PassesSize (numbers_over (unsigned w64) (byte_width_of kind) k.constraints) (λ r. byte_width_of kind) k.values rows) m p)

@@ -1,9 +1,13 @@
 -- Values and their places, with one value more.
-use Rattle.std.proofs.Common.{◌≡◌, ℕ, ◌+◌, ◌^◌, ◌<◌, inl, inr, Bool, true, false, true≢false, not, ◌||◌, nat_le, ◌*◌, map, pos, ℤ, IsTrue, cond, Option, Some, None, List, [], ◌∷◌, ◌++◌, length, take, get_or, refl, ap, sym, subst, ◌∙◌, arith, mul-suc}
+use Rattle.std.proofs.Common.{◌≡◌, ℕ, ◌+◌, ◌^◌, ◌<◌, inl, inr, Bool, true, false, true≢false, not}
+use Rattle.std.proofs.Common.{◌||◌, nat_le, ◌*◌, map, pos, ℤ, IsTrue, cond, Option, Some, None}
+use Rattle.std.proofs.Common.{List, [], ◌∷◌, ◌++◌, length, take, get_or, refl, ap, sym, subst, ◌∙◌}
+use Rattle.std.proofs.Common.{arith, mul-suc}
 use Rattle.std.specs.Bool.{Decides}
 use Rattle.std.specs.Option.{option_eq}
 use Rattle.std.proofs.lemmas.Bool.{cases_lt}
-use Rattle.std.proofs.lemmas.List.{length-map, length-append, length-take-le, get_or_append_left, get_or-take, take_more}
+use Rattle.std.proofs.lemmas.List.{length-map, length-append, length-take-le, get_or_append_left}
+use Rattle.std.proofs.lemmas.List.{get_or-take, take_more}
 use Rattle.std.proofs.lemmas.Option.{slice_get-get_or}
 use Rattle.std.proofs.Math.Seq.{get_or-append_seam}
 use Rattle.std.specs.declared.cmp.Ordering.{Ordering}
@@ -18,7 +22,7 @@ use Rattle.vortex_terms.specs.Row.{Row}
 use Rattle.vortex_dict.specs.declared.constraints.DictConstraints.{DictConstraints}
 use Rattle.vortex_dict.specs.KeyRows.{number_or_null}
 use Rattle.vortex_dict.specs.Limits.{most_values, numbers_over}
-use Rattle.vortex_dict.specs.Numbers.{place_found, HasPlaces}
+use Rattle.vortex_dict.specs.inner.Numbers.{place_found, HasPlaces}
 use Rattle.vortex_dict.proofs.ValueLemmas.{option_eq-Decides}
 
 abbrev Apart : {T : Type 0} → List (Option T) → Type 0

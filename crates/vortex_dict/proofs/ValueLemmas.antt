@@ -1,5 +1,7 @@
 -- One key more, in the words of rows.
-use Rattle.std.proofs.Common.{◌≡◌, ℕ, suc, Bool, true, false, not, ◌&&◌, ◌||◌, cond, true≢false, Option, Some, None, Result, Err, List, [], ◌∷◌, ◌++◌, map, length, refl, ap, sym, ◌∙◌, ℤ}
+use Rattle.std.proofs.Common.{◌≡◌, ℕ, suc, Bool, true, false, not, ◌&&◌, ◌||◌, cond, true≢false}
+use Rattle.std.proofs.Common.{Option, Some, None, Result, Err, List, [], ◌∷◌, ◌++◌, map, length}
+use Rattle.std.proofs.Common.{refl, ap, sym, ◌∙◌, ℤ}
 use Rattle.std.specs.Bool.{Decides}
 use Rattle.std.specs.Cmp.{both_ways}
 use Rattle.std.specs.List.{filter, list_any, AllByRecursion, IsDistinct}
@@ -11,7 +13,8 @@ use Rattle.vortex_terms.specs.OrderLaws.{row_eq-Decides}
 use Rattle.vortex_terms.specs.Distinct.{distinct, first_place}
 use Rattle.vortex_codes.specs.Places.{place_of, with_key, code_in}
 use Rattle.vortex_dict.specs.KeyRows.{bytes_or_null, number_or_null}
-use Rattle.vortex_dict.specs.Encoding.{stands, EncodesValue}
+use Rattle.vortex_dict.specs.Encoding.{stands}
+use Rattle.vortex_dict.specs.inner.Step.{EncodesValue}
 
 module _ {K : Type 0} (same : K → K → Bool) (decides : (a b : K) → Decides (same a b) (a ≡ b)) (row : K → Row) (apart : (a b : K) → row a ≡ row b → a ≡ b) where
   agree : (a b : K) → row_eq (row a) (row b) ≡ same a b
@@ -34,6 +37,19 @@ module _ {K : Type 0} (same : K → K → Bool) (decides : (a b : K) → Decides
       by true o e = refl
       by false None e = ap (λ n. suc n) e
       by false (Some i) e = ap (λ n. suc n) e
+
+  -- the place of a key, in the words of rows
+  pub place_is : (k : K) (ks : List K) → place_of same k ks
+      ≡ cond (stands (row k) (map row ks)) (Some (first_place (row k) (map row ks))) None
+  place_is k ks = by (place_of same k ks) (stands_is k ks) (code_is k ks)
+    where
+      by : (o : Option ℕ) → is_some o ≡ stands (row k) (map row ks)
+          → unwrap_or o (length ks) ≡ first_place (row k) (map row ks)
+          → o ≡ cond (stands (row k) (map row ks)) (Some (first_place (row k) (map row ks))) None
+      by None e f = ap (λ b. cond b (Some (first_place (row k) (map row ks))) None) e
+      by (Some i) e f =
+          ap (λ n. Some n) f
+          ∙ ap (λ b. cond b (Some (first_place (row k) (map row ks))) None) e
 
   pub new_is : (k : K) (ks : List K) → place_of same k ks ≡ None → stands (row k) (map row ks) ≡ false
   new_is k ks n = sym (stands_is k ks) ∙ ap is_some n

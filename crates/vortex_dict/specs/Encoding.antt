@@ -3,9 +3,11 @@
 --     Encodes               what values and codes are made of rows, beside values that are held
 --     EncodesPart           what values a refusal leaves
 --     PassesSize            that the values would have more bytes than they may
---     EncodesValue          what one row makes of the values, and its code
+--     code_number           the number that a code is
 -- `over` tells whether a value is over a limit beside the values so far.
-use Rattle.std.specs.Prelude.{◌≡◌, ℕ, ◌^◌, ◌<◌, ◌≤◌, Bool, true, false, not, ◌&&◌, ◌||◌, cond, List, [], ◌∷◌, ◌++◌, length, take, get_or, Option, Some, None, ℤ, unsigned_abs}
+use Rattle.std.specs.Prelude.{◌≡◌, ℕ, ◌^◌, ◌<◌, ◌≤◌, Bool, true, false, not, ◌&&◌, ◌||◌, cond, List}
+use Rattle.std.specs.Prelude.{[], ◌∷◌, ◌++◌, length, take, get_or, Option, Some, None, ℤ}
+use Rattle.std.specs.Prelude.{unsigned_abs}
 use Rattle.std.specs.List.{list_any, sum_by}
 use Rattle.vortex_terms.specs.Row.{Row, null_row}
 use Rattle.vortex_terms.specs.Order.{row_eq}
@@ -24,7 +26,9 @@ module _ (over : List Row → Row → Bool) where
   abbrev pub stops_at : List Row → List Row → ℕ → Bool
   stops_at held rows i = is_stop (held ++ take i rows) (get_or rows i null_row)
 
-  -- the values are the distinct rows, held and encoded, in the order in which they come first, the codes are their places there, and the rows encoded are those before the first new value over a limit
+  -- the values are the distinct rows, held and encoded, in the order in which they come first, the
+  -- codes are their places there, and the rows encoded are those before the first new value over a
+  -- limit
   pub record Encodes (held rows values : List Row) (codes : List ℕ) : Type 0 where
     pub count : length codes ≤ length rows
     pub within : (i : ℕ) → i < length codes → stops_at held rows i ≡ false
@@ -45,11 +49,6 @@ module _ (over : List Row → Row → Bool) where
     pub count : rows_in ≤ length rows
     pub within : (i : ℕ) → i < rows_in → stops_at held rows i ≡ false
     pub bytes : 2 ^ 32 ≤ sum_by size (distinct (held ++ take rows_in rows))
-
-  -- a row that is new and within the limits comes behind the values, and its code is its place there; a row that is new and over a limit has none
-  pub record EncodesValue (values : List Row) (r : Row) (values' : List Row) (code : Option ℕ) : Type 0 where
-    pub values_are : values' ≡ cond (stands r values || over values r) values (values ++ r ∷ [])
-    pub code_is : code ≡ cond (not (stands r values) && over values r) None (Some (first_place r values))
 
 -- the number that a code is
 abbrev pub code_number : {T : Type 0} → (T → ℤ) → T → ℕ

@@ -1,5 +1,6 @@
 -- The limits of a dictionary.
-use Rattle.std.specs.Prelude.{◌≡◌, ℕ, ◌+◌, ◌/◌, ◌<◌, min, IsTrue, pos, Bool, not, ◌||◌, ◌&&◌, nat_le, nat_lt, if◌then◌else◌, List, length}
+use Rattle.std.specs.Prelude.{ℕ, ◌+◌, ◌/◌, min, pos, Bool, not, ◌||◌, ◌&&◌, nat_le, nat_lt}
+use Rattle.std.specs.Prelude.{if◌then◌else◌, List, length}
 use Rattle.std.specs.List.{sum_by}
 use Rattle.vortex_number.specs.Format.{Format, fits}
 use Rattle.vortex_terms.specs.Row.{Row, bytes_row, is_null}
@@ -21,9 +22,11 @@ byte_count _ = 0
 abbrev pub counted : Row → ℕ
 counted r = 16 + (if nat_le (byte_count r) 12 then 0 else byte_count r)
 
--- whether a value beside so many that count so much is over a limit: its place is no number of the code type, the values are as many as they may be, or it is no null and would count too much
+-- whether a value beside so many that count so much is over a limit: its place is no number of the
+-- code type, the values are as many as they may be, or it is no null and would count too much
 abbrev pub over_by : Format → DictConstraints → ℕ → ℕ → Row → Bool
-over_by code limits count bytes r = not (fits code (pos count)) || nat_le limits.max_len count || (not (is_null r) && nat_lt limits.max_bytes (bytes + counted r))
+over_by code limits count bytes r = not (fits code (pos count)) || nat_le limits.max_len count
+    || (not (is_null r) && nat_lt limits.max_bytes (bytes + counted r))
 
 -- the same beside values
 abbrev pub bytes_over : Format → DictConstraints → List Row → Row → Bool
@@ -35,17 +38,8 @@ bytes_over code limits values r = over_by code limits (length values) (sum_by co
 abbrev pub most_values : ℕ → DictConstraints → ℕ
 most_values width limits = min limits.max_len (limits.max_bytes / width)
 
--- whether a value is over a limit: its place is no number of the code type, or the values are as many as they may be
+-- whether a value is over a limit: its place is no number of the code type, or the values are as
+-- many as they may be
 abbrev pub numbers_over : Format → ℕ → DictConstraints → List Row → Row → Bool
-numbers_over code width limits values r = not (fits code (pos (length values))) || nat_le (most_values width limits) (length values)
-
--- ---- what an encoder keeps
-
--- the count is that of the keys' rows, and each place has a code
-pub record IsBytesDict (code : Format) (rows : List Row) (count : ℕ) : Type 0 where
-  pub count_is : count ≡ sum_by counted rows
-  pub coded : (i : ℕ) → i < length rows → IsTrue (fits code (pos i))
-
--- each place has a code
-abbrev pub HasCodes : Format → List Row → Type 0
-HasCodes code rows = (i : ℕ) → i < length rows → IsTrue (fits code (pos i))
+numbers_over code width limits values r = not (fits code (pos (length values)))
+    || nat_le (most_values width limits) (length values)

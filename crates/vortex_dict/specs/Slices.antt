@@ -1,5 +1,6 @@
 -- Rows in slices.
-use Rattle.std.specs.Prelude.{◌≡◌, ℕ, suc, ◌-◌, ◌<◌, ◌≤◌, Bool, true, cond, List, map, length, get_or, slice_get, Option, Some, None, MatchOption}
+use Rattle.std.specs.Prelude.{◌≡◌, ℕ, suc, ◌-◌, ◌<◌, ◌≤◌, Bool, true, cond, List, map, length}
+use Rattle.std.specs.Prelude.{get_or, slice_get, Option, Some, None, MatchOption}
 use Rattle.std.specs.List.{slice_range, range_with_len}
 
 -- whether the row at a place is no null: where there is no list of that, none is
@@ -10,10 +11,12 @@ is_valid (Some valid) i = get_or valid i true
 -- ---- bytes: row i stands from offset i to offset i + 1
 
 abbrev pub bytes_at : List ℕ → List ℕ → Option (List Bool) → ℕ → Option (List ℕ)
-bytes_at bytes offsets valid i = cond (is_valid valid i) (Some (slice_range bytes (get_or offsets i 0) (get_or offsets (suc i) 0))) None
+bytes_at bytes offsets valid i = cond (is_valid valid i)
+    (Some (slice_range bytes (get_or offsets i 0) (get_or offsets (suc i) 0))) None
 
 abbrev pub bytes_rows : List ℕ → List ℕ → Option (List Bool) → List (Option (List ℕ))
-bytes_rows bytes offsets valid = map (bytes_at bytes offsets valid) (range_with_len 0 (length offsets - 1))
+bytes_rows bytes offsets valid = map (bytes_at bytes offsets valid)
+    (range_with_len 0 (length offsets - 1))
 
 -- the i-th piece lies in the bytes
 pub record IsPiece (bytes offsets : List ℕ) (i : ℕ) : Type 0 where

@@ -1,25 +1,32 @@
 //! Rows of bytes as values and codes.
 
-ghost use Rattle.std.specs.Prelude.{◌≡◌, ℕ, ◌+◌, ◌*◌, ◌^◌, ◌<◌, ◌≤◌, [], map, length, pos, false, IfOk, OnErr, Err, Option, Some, None, IsTrue, cond, ◌==◌, ◌↔◌, ◌-◌, if◌then◌else◌};
+ghost use Rattle.std.specs.Prelude.{◌≡◌, ℕ, ◌+◌, ◌*◌, ◌^◌, ◌<◌, ◌≤◌, [], map, length, pos, false};
+ghost use Rattle.std.specs.Prelude.{IfErr, IfOk, OnErr, Err, Option, Some, None, IsTrue, cond};
+ghost use Rattle.std.specs.Prelude.{◌==◌, ◌↔◌, ◌-◌, if◌then◌else◌};
 ghost use Rattle.std.specs.List.{sum_by};
 ghost use Rattle.std.specs.Option.{option_map, unwrap_or};
 ghost use Rattle.vortex_number.specs.Format.{fits};
-ghost use Rattle.vortex_terms.specs.Distinct.{distinct};
+ghost use Rattle.vortex_terms.specs.Distinct.{distinct, first_place};
+ghost use Rattle.vortex_terms.specs.Row.{null_row};
 ghost use Rattle.vortex_codes.specs.Keys.{keys_of};
+ghost use Rattle.vortex_codes.specs.Refusals.{IsOfSize};
+ghost use Rattle.vortex_codes.specs.Table.{IsParted};
 ghost use Rattle.vortex_dict.specs.KeyRows.{bytes_or_null};
-ghost use Rattle.vortex_dict.specs.Encoding.{stands, Encodes, EncodesPart, PassesSize, EncodesValue, code_number};
+ghost use Rattle.vortex_dict.specs.Encoding.{stands, Encodes, EncodesPart, PassesSize, code_number};
+ghost use Rattle.vortex_dict.specs.inner.Step.{EncodesValue};
 ghost use Rattle.vortex_dict.specs.Limits.{Dictionary, byte_count, counted, over_by, bytes_over};
 
 use crate::bytes_rows::BytesRows;
+use crate::code_type::CodeType;
 use crate::constraints::DictConstraints;
 use std::alloc::Global;
 use std::marker::{Model, PhantomData};
 use vortex_codes::{BytesHash, CodeTable, DictError, KeyHash, Pieces};
-use vortex_value::NativePType;
 
-/// Makes rows of bytes into values and codes, over as many columns as are handed in one after another.
+/// Makes rows of bytes into values and codes, over as many columns as are handed in one after
+/// another.
 #[derive(Drop)]
-pub struct BytesDictEncoder<Code: NativePType, H: KeyHash = BytesHash> {
+pub struct BytesDictEncoder<Code: CodeType, H: KeyHash = BytesHash> {
     lookup: CodeTable<H>,
     /// What the values count for.
     dict_bytes: usize,
@@ -27,24 +34,28 @@ pub struct BytesDictEncoder<Code: NativePType, H: KeyHash = BytesHash> {
     code: PhantomData<Code>,
 }
 
-impl<Code: NativePType, H: KeyHash> Model for BytesDictEncoder<Code, H> {
+impl<Code: CodeType, H: KeyHash> Model for BytesDictEncoder<Code, H> {
     ghost use Rattle.std.specs.Prelude.{map};
     ghost use Rattle.vortex_dict.specs.KeyRows.{bytes_or_null};
-    ghost use Rattle.vortex_dict.specs.Limits.{Dictionary, IsBytesDict};
-    ghost use Rattle.vortex_dict.specs.DictionaryCode.{coded_dictionary};
+    ghost use Rattle.vortex_dict.specs.Limits.{Dictionary};
+    ghost use Rattle.vortex_dict.specs.inner.Kept.{IsBytesDict};
+    ghost use Rattle.vortex_dict.specs.inner.DictionaryCode.{coded_dictionary};
 
     ghost Value = { Dictionary };
 
     ghost coded = { coded_dictionary };
 
-    ghost view = { λ e. record { values = map bytes_or_null e.lookup; constraints = e.constraints } };
+    ghost view = { λ e. record {
+      values = map bytes_or_null e.lookup;
+      constraints = e.constraints;
+    } };
 
     ghost invariant = { λ e. IsBytesDict Code.format (map bytes_or_null e.lookup) e.dict_bytes };
 }
 
 /// Whether a place is a number of the code type.
 #[inline(always)]
-pub(crate) fn has_code<Code: NativePType>(place: usize) -> bool
+pub(crate) fn has_code<Code: CodeType>(place: usize) -> bool
     ensures { result ≡ fits Code.format (pos place) }
 {
     Code::from_i128(place as i128).is_some()
@@ -52,8 +63,9 @@ pub(crate) fn has_code<Code: NativePType>(place: usize) -> bool
 
 /// The code of a place.
 #[inline(always)]
-pub(crate) fn code_at<Code: NativePType>(place: u32) -> Option<Code>
-    ensures { option_map (code_number Code.number) result ≡ (if fits Code.format (pos place) then Some place else None) }
+pub(crate) fn code_at<Code: CodeType>(place: u32) -> Option<Code>
+    ensures { option_map (code_number Code.number) result
+        ≡ (if fits Code.format (pos place) then Some place else None) }
 {
     Code::from_i128(i128::from(place))
 }
@@ -75,14 +87,15 @@ fn count_of(key: Option<&[u8]>) -> usize
 
 /// Whether a value is over a limit, beside so many that count so much.
 #[inline(always)]
-fn is_over<Code: NativePType>(
+fn is_over<Code: CodeType>(
     len: usize,
     dict_bytes: usize,
     constraints: &DictConstraints,
     key: Option<&[u8]>,
 ) -> bool
     requires { dict_bytes < 2 ^ 40 }
-    ensures { result ≡ over_by Code.format constraints.now len dict_bytes (bytes_or_null (option_map (λ k. k.now) key.entry)) }
+    ensures { result ≡ over_by Code.format constraints.now len dict_bytes
+        (bytes_or_null (option_map (λ k. k.now) key.entry)) }
 {
     !has_code::<Code>(len)
         || constraints.max_len <= len
@@ -102,19 +115,20 @@ fn count_after(dict_bytes: usize, count: usize, place: u32, len: usize) -> usize
     }
 }
 
-impl<Code: NativePType> BytesDictEncoder<Code, BytesHash> {
+impl<Code: CodeType> BytesDictEncoder<Code, BytesHash> {
     pub fn new(
         alloc: Global,
         constraints: &DictConstraints,
     ) -> Result<BytesDictEncoder<Code, BytesHash>, DictError>
-        ensures made { IfOk result (λ e. e ≡ record { values = []; constraints = constraints.now }) }
+        ensures made { IfOk result (λ e. e ≡ record
+            { values = []; constraints = constraints.now }) }
         ensures memory { OnErr result (result ≡ Err DictError.OutOfMemory) }
     {
         BytesDictEncoder::with_hash(alloc, constraints, BytesHash)
     }
 }
 
-impl<Code: NativePType, H: KeyHash> BytesDictEncoder<Code, H> {
+impl<Code: CodeType, H: KeyHash> BytesDictEncoder<Code, H> {
     /// An encoder that finds values by a hash function of the caller.
     pub fn with_hash(
         alloc: Global,
@@ -123,7 +137,8 @@ impl<Code: NativePType, H: KeyHash> BytesDictEncoder<Code, H> {
     ) -> Result<BytesDictEncoder<Code, H>, DictError>
     where
         H: Drop,
-        ensures made { IfOk result (λ e. e ≡ record { values = []; constraints = constraints.now }) }
+        ensures made { IfOk result (λ e. e ≡ record
+            { values = []; constraints = constraints.now }) }
         ensures memory { OnErr result (result ≡ Err DictError.OutOfMemory) }
     {
         Ok(BytesDictEncoder {
@@ -137,10 +152,12 @@ impl<Code: NativePType, H: KeyHash> BytesDictEncoder<Code, H> {
     /// The values are distinct, in few bytes, and each place has a code.
     pub fn law(&self)
         ensures distinct { distinct self.now.values ≡ self.now.values }
+        ensures few { length self.now.values < 2 ^ 32 }
         ensures small { sum_by byte_count self.now.values < 2 ^ 32 }
         ensures coded { (i : ℕ) → i < length self.now.values → IsTrue (fits Code.format (pos i)) }
     {
         self.lookup.law();
+        let _len = self.lookup.len();
         let _size = self.lookup.byte_len();
     }
 
@@ -159,20 +176,34 @@ impl<Code: NativePType, H: KeyHash> BytesDictEncoder<Code, H> {
 
     /// The values in one buffer.
     pub fn values(&self) -> Pieces<'_>
-        ensures { map bytes_or_null (keys_of result.bytes.now result.offsets.now (unwrap_or result.null (2 ^ 32 - 1))) ≡ self.now.values }
+        ensures values { map bytes_or_null (keys_of result.bytes.now result.offsets.now
+            (unwrap_or result.null (2 ^ 32 - 1))) ≡ self.now.values }
+        ensures parted { IsParted result.bytes.now result.offsets.now
+            (unwrap_or result.null (2 ^ 32 - 1)) }
+        ensures null { result.null ≡ (if stands null_row self.now.values
+            then Some (first_place null_row self.now.values) else None) }
     {
         self.lookup.pieces()
     }
 
-    /// The code of a value, which is added where it is new, or nothing where it is new and over a limit.
+    /// The code of a value, which is added where it is new, or nothing where it is new and over a
+    /// limit.
     #[inline(always)]
     fn encode_value(&mut self, key: Option<&[u8]>) -> Result<Option<Code>, DictError>
-        ensures encoded { IfOk result (λ o. EncodesValue (bytes_over Code.format self.old.constraints) self.old.values (bytes_or_null (option_map (λ k. k.now) key.entry)) self.new.values (option_map (code_number Code.number) o)) }
+        ensures encoded { IfOk result (λ o. EncodesValue
+            (bytes_over Code.format self.old.constraints) self.old.values
+            (bytes_or_null (option_map (λ k. k.now) key.entry)) self.new.values
+            (option_map (code_number Code.number) o)) }
         ensures constraints { self.new.constraints ≡ self.old.constraints }
         ensures stays { OnErr result (self.new.values ≡ self.old.values) }
-        ensures new { OnErr result (stands (bytes_or_null (option_map (λ k. k.now) key.entry)) self.old.values ≡ false) }
-        ensures within { OnErr result (bytes_over Code.format self.old.constraints self.old.values (bytes_or_null (option_map (λ k. k.now) key.entry)) ≡ false) }
-        ensures too_large { result ≡ Err DictError.TooLarge → 2 ^ 32 ≤ sum_by byte_count self.old.values + byte_count (bytes_or_null (option_map (λ k. k.now) key.entry)) }
+        ensures new { OnErr result (stands (bytes_or_null
+            (option_map (λ k. k.now) key.entry)) self.old.values ≡ false) }
+        ensures within { OnErr result (bytes_over Code.format self.old.constraints self.old.values
+            (bytes_or_null (option_map (λ k. k.now) key.entry)) ≡ false) }
+        ensures too_large { result ≡ Err DictError.TooLarge
+            → 2 ^ 32 ≤ sum_by byte_count self.old.values + byte_count
+            (bytes_or_null (option_map (λ k. k.now) key.entry)) }
+        ensures errors { IfErr result (λ e. IsOfSize e) }
     {
         let len = self.lookup.len();
         let _size = self.lookup.byte_len();
@@ -184,12 +215,20 @@ impl<Code: NativePType, H: KeyHash> BytesDictEncoder<Code, H> {
         Ok(code_at(place))
     }
 
-    /// The codes of the rows before the first new value over a limit. After a refusal the values are those of some first rows.
+    /// The codes of the rows before the first new value over a limit. After a refusal the values
+    /// are those of some first rows.
     pub fn encode(&mut self, alloc: Global, rows: &BytesRows<'_>) -> Result<Vec<Code>, DictError>
-        ensures encoded { IfOk result (λ codes. Encodes (bytes_over Code.format self.old.constraints) self.old.values (map bytes_or_null rows.now) self.new.values (map (code_number Code.number) codes.items)) }
+        ensures encoded { IfOk result (λ codes. Encodes
+            (bytes_over Code.format self.old.constraints) self.old.values
+            (map bytes_or_null rows.now) self.new.values
+            (map (code_number Code.number) codes.items)) }
         ensures constraints { self.new.constraints ≡ self.old.constraints }
-        ensures part { OnErr result (EncodesPart (bytes_over Code.format self.old.constraints) self.old.values (map bytes_or_null rows.now) self.new.values) }
-        ensures too_large { result ≡ Err DictError.TooLarge → PassesSize (bytes_over Code.format self.old.constraints) byte_count self.old.values (map bytes_or_null rows.now) }
+        ensures part { OnErr result (EncodesPart (bytes_over Code.format self.old.constraints)
+            self.old.values (map bytes_or_null rows.now) self.new.values) }
+        ensures too_large { result ≡ Err DictError.TooLarge
+            → PassesSize (bytes_over Code.format self.old.constraints) byte_count self.old.values
+            (map bytes_or_null rows.now) }
+        ensures errors { IfErr result (λ e. IsOfSize e) }
     {
         self.law();
         let mut codes = Vec::with_capacity(alloc, rows.len())?;

@@ -1,12 +1,17 @@
 //! Rows of bytes in slices.
 
-ghost use Rattle.std.specs.Prelude.{◌≡◌, ℕ, suc, ◌+◌, ◌-◌, ◌<◌, ◌↔◌, length, slice_get, Some, IsSome, IfSome, IsTrue};
+ghost use Rattle.std.specs.Prelude.{◌≡◌, ℕ, suc, ◌+◌, ◌-◌, ◌^◌, ◌<◌, ◌↔◌, get_or, length, map};
+ghost use Rattle.std.specs.Prelude.{slice_get, Some, IsSome, IfSome, IsTrue};
 ghost use Rattle.std.specs.Option.{option_map};
+ghost use Rattle.vortex_terms.specs.Row.{null_row};
+ghost use Rattle.vortex_dict.specs.KeyRows.{bytes_or_null};
+ghost use Rattle.vortex_dict.specs.Limits.{byte_count};
 ghost use Rattle.vortex_dict.specs.Slices.{bytes_at, bytes_rows, is_valid, ArePieces, AreBytesRows};
 
 use std::marker::Model;
 
-/// Rows of bytes: row i stands from offset i to offset i + 1, and is null where the list of validity says so.
+/// Rows of bytes: row i stands from offset i to offset i + 1, and is null where the list of
+/// validity says so.
 #[derive(Drop)]
 pub struct BytesRows<'a> {
     bytes: &'a [u8],
@@ -24,7 +29,8 @@ impl<'a> Model for BytesRows<'a> {
 
     ghost view = { λ r. bytes_rows r.bytes.now r.offsets.now (option_map (λ v. v.now) r.valid) };
 
-    ghost invariant = { λ r. AreBytesRows r.bytes.now r.offsets.now (option_map (λ v. v.now) r.valid) };
+    ghost invariant = { λ r. AreBytesRows r.bytes.now r.offsets.now
+        (option_map (λ v. v.now) r.valid) };
 }
 
 /// Whether the offsets rise and end in the bytes.
@@ -60,7 +66,8 @@ fn row_at<'a>(
 ) -> Option<&'a [u8]>
     requires rows { ArePieces bytes.now offsets.now }
     requires within { suc i < length offsets.now }
-    ensures { option_map (λ k. k.now) result ≡ bytes_at bytes.now offsets.now (option_map (λ v. v.now) valid.entry) i }
+    ensures { option_map (λ k. k.now) result ≡ bytes_at bytes.now offsets.now
+        (option_map (λ v. v.now) valid.entry) i }
 {
     if is_valid(valid, i) {
         Some(&bytes[offsets[i] as usize..offsets[i + 1] as usize])
@@ -76,8 +83,10 @@ impl<'a> BytesRows<'a> {
         offsets: &'a [u32],
         valid: Option<&'a [bool]>,
     ) -> Option<BytesRows<'a>>
-        ensures rows { IfSome result (λ r. r ≡ bytes_rows bytes.now offsets.now (option_map (λ v. v.now) valid.entry)) }
-        ensures exact { IsSome result ↔ AreBytesRows bytes.now offsets.now (option_map (λ v. v.now) valid.entry) }
+        ensures rows { IfSome result (λ r. r ≡ bytes_rows bytes.now offsets.now
+            (option_map (λ v. v.now) valid.entry)) }
+        ensures exact { IsSome result ↔ AreBytesRows bytes.now offsets.now
+            (option_map (λ v. v.now) valid.entry) }
     {
         if offsets.is_empty() || !are_pieces(bytes, offsets) {
             return None;
@@ -94,6 +103,14 @@ impl<'a> BytesRows<'a> {
             offsets,
             valid,
         })
+    }
+
+    /// No row has 2^63 bytes, since the buffer has not.
+    pub fn law(&self)
+        ensures { (i : ℕ) → i < length self.now → byte_count
+            (get_or (map bytes_or_null self.now) i null_row) < 2 ^ 63 }
+    {
+        let _len = self.bytes.len();
     }
 
     pub fn len(&self) -> usize

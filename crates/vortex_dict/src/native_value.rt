@@ -7,7 +7,8 @@ ghost use Rattle.std.proofs.lemmas.Bool.Decides.{Decides-eqb, Decides-int_eq};
 use std::hash::Hash;
 use vortex_value::NativePType;
 
-/// A native type whose values are equal exactly where they are the same, so that they are found in maps.
+/// A native type whose values are equal exactly where they are the same, so that they are found in
+/// maps.
 pub trait NativeValue: NativePType + Ord + Hash {
     // Values are equal exactly where they are the same.
     ghost eq_law: { (x y : Self) → Decides (Self.eq x y) (x ≡ y) };

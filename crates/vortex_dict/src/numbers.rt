@@ -1,12 +1,15 @@
 //! Values without repeats, each found by a map.
 
-ghost use Rattle.std.specs.Prelude.{◌≡◌, ℕ, ◌+◌, ◌*◌, ◌^◌, ◌<◌, ◌≤◌, ◌↔◌, [], ◌∷◌, ◌++◌, length, get_or, IfOk, OnOk, OnErr, Err, Some, None, IsTrue, Option, cond, if◌then◌else◌};
+ghost use Rattle.std.specs.Prelude.{◌≡◌, ℕ, ◌+◌, ◌*◌, ◌^◌, ◌<◌, ◌≤◌, ◌↔◌, [], ◌∷◌, ◌++◌, length};
+ghost use Rattle.std.specs.Prelude.{get_or, IfErr, IfOk, OnOk, OnErr, Err, Some, None, IsTrue};
+ghost use Rattle.std.specs.Prelude.{Option, cond, if◌then◌else◌};
 ghost use Rattle.std.specs.BTreeMap.{get};
 ghost use Rattle.std.specs.List.{IsDistinct};
 ghost use Rattle.std.specs.Option.{option_eq};
 ghost use Rattle.vortex_number.specs.PType.{byte_width_of};
 ghost use Rattle.vortex_codes.specs.Places.{place_of, with_key, code_in};
-ghost use Rattle.vortex_dict.specs.Numbers.{place_in, place_found, HasPlaces};
+ghost use Rattle.vortex_codes.specs.Refusals.{IsOfSize};
+ghost use Rattle.vortex_dict.specs.inner.Numbers.{place_in, place_found, HasPlaces};
 
 use crate::native_value::NativeValue;
 use std::alloc::{AllocError, Global};
@@ -17,8 +20,8 @@ use vortex_codes::DictError;
 
 /// Values without repeats, each with its place as its code.
 ///
-/// A value is found by its hash. Once far more values than are to be expected have hashes of one class, as those that were
-/// chosen to collide do, values are found by their order instead.
+/// A value is found by its hash. Once far more values than are to be expected have hashes of one
+/// class, as those that were chosen to collide do, values are found by their order instead.
 #[derive(Drop)]
 pub(crate) struct Numbers<T: NativeValue> {
     values: Vec<Option<T>>,
@@ -35,11 +38,12 @@ impl<T: NativeValue> Model for Numbers<T> {
     ghost Value = { List (Option T) };
 
     ghost use Rattle.vortex_number.specs.PType.{byte_width_of};
-    ghost use Rattle.vortex_dict.specs.Numbers.{HasPlaces};
+    ghost use Rattle.vortex_dict.specs.inner.Numbers.{HasPlaces};
 
     ghost view = { λ n. n.values.items };
 
-    ghost invariant = { λ n. HasPlaces T.eq T.cmp (byte_width_of T.PTYPE) n.values.items n.codes n.ordered n.null };
+    ghost invariant = { λ n. HasPlaces T.eq T.cmp
+        (byte_width_of T.PTYPE) n.values.items n.codes n.ordered n.null };
 }
 
 /// The place of a new value, and whether the class of its hash is crowded.
@@ -55,7 +59,8 @@ const CLASSES: usize = 4096;
 /// So many values in one class are no sign of values that were chosen to collide.
 const FEW: usize = 64;
 
-/// Counts a new value, and tells whether its class is crowded. The first few values are not counted.
+/// Counts a new value, and tells whether its class is crowded. The first few values are not
+/// counted.
 fn is_crowded<T: NativeValue>(
     classes: &mut Vec<u32>,
     value: Option<T>,
@@ -105,9 +110,14 @@ fn insert<T: NativeValue>(
     value: Option<T>,
     place: u32,
 ) -> Result<(), DictError>
-    ensures inserted { OnOk result ((v : Option T) → place_found T.eq T.cmp codes.new ordered.new null.new v ≡ cond (option_eq T.eq value v) (Some place) (place_found T.eq T.cmp codes.old ordered.old null.old v)) }
-    ensures stays { OnErr result ((v : Option T) → place_found T.eq T.cmp codes.new ordered.new null.new v ≡ place_found T.eq T.cmp codes.old ordered.old null.old v) }
-    ensures memory { result ≡ Err DictError.TooLarge → ⊥ }
+    ensures inserted { OnOk result ((v : Option T)
+        → place_found T.eq T.cmp codes.new ordered.new null.new v
+        ≡ cond (option_eq T.eq value v) (Some place)
+        (place_found T.eq T.cmp codes.old ordered.old null.old v)) }
+    ensures stays { OnErr result ((v : Option T)
+        → place_found T.eq T.cmp codes.new ordered.new null.new v
+        ≡ place_found T.eq T.cmp codes.old ordered.old null.old v) }
+    ensures memory { OnErr result (result ≡ Err DictError.OutOfMemory) }
 {
     let Some(value) = value else {
         *null = Some(place);
@@ -127,7 +137,8 @@ fn insert_in_order<T: NativeValue>(
     value: Option<T>,
     place: u32,
 ) -> Result<(), AllocError>
-    ensures { OnOk result ((v : T) → get T.cmp ordered.new v ≡ cond (option_eq T.eq value (Some v)) (Some place) (get T.cmp ordered.old v)) }
+    ensures { OnOk result ((v : T) → get T.cmp ordered.new v
+        ≡ cond (option_eq T.eq value (Some v)) (Some place) (get T.cmp ordered.old v)) }
 {
     let Some(value) = value else {
         return Ok(());
@@ -141,9 +152,11 @@ fn order_of<T: NativeValue>(
     alloc: Global,
     values: &[Option<T>],
 ) -> Result<BTreeMap<T, u32>, AllocError>
-    requires apart { (c d : ℕ) → c < length values.now → d < length values.now → get_or values.now c None ≡ get_or values.now d None → c ≡ d }
+    requires apart { (c d : ℕ) → c < length values.now → d < length values.now
+        → get_or values.now c None ≡ get_or values.now d None → c ≡ d }
     requires few { length values.now < 2 ^ 32 }
-    ensures { IfOk result (λ ordered. (v : T) → get T.cmp ordered v ≡ place_of (option_eq T.eq) (Some v) values.now) }
+    ensures { IfOk result (λ ordered. (v : T) → get T.cmp ordered v
+        ≡ place_of (option_eq T.eq) (Some v) values.now) }
 {
     let mut ordered = BTreeMap::new(alloc);
     for place in 0..values.len() {
@@ -213,7 +226,9 @@ impl<T: NativeValue> Numbers<T> {
         ensures added { OnOk result (self.new ≡ self.old ++ value ∷ []) }
         ensures place { IfOk result (λ a. a.place ≡ length self.old) }
         ensures stays { OnErr result (self.new ≡ self.old) }
-        ensures too_large { (result ≡ Err DictError.TooLarge) ↔ (2 ^ 32 ≤ byte_width_of T.PTYPE * (length self.old + 1)) }
+        ensures too_large { (result ≡ Err DictError.TooLarge)
+            ↔ (2 ^ 32 ≤ byte_width_of T.PTYPE * (length self.old + 1)) }
+        ensures errors { IfErr result (λ e. IsOfSize e) }
     {
         let count = self.values.len();
         if !has_room(T::PTYPE.byte_width(), count) {
@@ -249,18 +264,26 @@ impl<T: NativeValue> Numbers<T> {
         }
     }
 
-    /// The place of a value, which is added where it is new and may be added, or nothing where it is new and may not.
+    /// The place of a value, which is added where it is new and may be added, or nothing where it
+    /// is new and may not.
     #[inline(always)]
     pub(crate) fn find_or_add(
         &mut self,
         value: Option<T>,
         may_add: bool,
     ) -> Result<Option<u32>, DictError>
-        ensures values { OnOk result (self.new ≡ (if may_add then with_key (option_eq T.eq) self.old value else self.old)) }
-        ensures code { IfOk result (λ o. o ≡ (if may_add then Some (code_in (option_eq T.eq) self.old value) else place_of (option_eq T.eq) value self.old)) }
+        ensures values { OnOk result (self.new ≡ (if may_add
+            then with_key (option_eq T.eq) self.old value else self.old)) }
+        ensures code { IfOk result (λ o. o ≡ (if may_add
+            then Some (code_in (option_eq T.eq) self.old value)
+            else place_of (option_eq T.eq) value self.old)) }
         ensures stays { OnErr result (self.new ≡ self.old) }
-        ensures new { OnErr result (IsTrue may_add × (place_of (option_eq T.eq) value self.old ≡ None)) }
-        ensures too_large { result ≡ Err DictError.TooLarge → 2 ^ 32 ≤ byte_width_of T.PTYPE * (length self.old + 1) }
+        ensures new { OnErr result (IsTrue may_add
+            × (place_of (option_eq T.eq) value self.old ≡ None)) }
+        ensures too_large { (result ≡ Err DictError.TooLarge)
+            ↔ (IsTrue may_add × (place_of (option_eq T.eq) value self.old ≡ None)
+            × (2 ^ 32 ≤ byte_width_of T.PTYPE * (length self.old + 1))) }
+        ensures errors { IfErr result (λ e. IsOfSize e) }
     {
         let found = self.place(value);
         if found.is_some() || !may_add {

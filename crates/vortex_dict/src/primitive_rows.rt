@@ -1,6 +1,7 @@
 //! Rows of whole numbers in slices.
 
-ghost use Rattle.std.specs.Prelude.{◌≡◌, ◌-◌, ◌<◌, ◌↔◌, length, slice_get, Some, IsSome, IfSome, IsTrue};
+ghost use Rattle.std.specs.Prelude.{◌≡◌, ◌-◌, ◌<◌, ◌↔◌, length, slice_get, Some, IsSome, IfSome};
+ghost use Rattle.std.specs.Prelude.{IsTrue};
 ghost use Rattle.std.specs.Option.{option_map};
 ghost use Rattle.vortex_dict.specs.Slices.{value_at, value_rows, is_valid, AreValueRows};
 
@@ -44,8 +45,10 @@ fn row_at<T: NativeValue>(values: &[T], valid: Option<&[bool]>, i: usize) -> Opt
 impl<'a, T: NativeValue> PrimitiveRows<'a, T> {
     /// The rows, where as many are valid or not as there are values.
     pub fn try_new(values: &'a [T], valid: Option<&'a [bool]>) -> Option<PrimitiveRows<'a, T>>
-        ensures rows { IfSome result (λ r. r ≡ value_rows values.now (option_map (λ v. v.now) valid.entry)) }
-        ensures exact { IsSome result ↔ AreValueRows values.now (option_map (λ v. v.now) valid.entry) }
+        ensures rows { IfSome result (λ r. r ≡ value_rows values.now
+            (option_map (λ v. v.now) valid.entry)) }
+        ensures exact { IsSome result ↔ AreValueRows values.now
+            (option_map (λ v. v.now) valid.entry) }
     {
         let counted = match valid {
             None => true,

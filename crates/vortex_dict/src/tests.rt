@@ -2,6 +2,7 @@ use super::*;
 use std::alloc::Global;
 use std::hash::{FoldHasher, Hash, Hasher};
 use std::test::Fail;
+use vortex_number::PType;
 
 /// The same number for every key.
 #[derive(Drop)]
@@ -55,36 +56,113 @@ fn texts_by_both_hashes(rt: HostRuntime) -> Result<(), Fail> {
     Ok(())
 }
 
-/// The codes of texts without null are these, under these limits.
-fn codes_are<'a>(
+/// The codes of these rows are these, under these limits.
+fn codes_are(
     alloc: Global,
     limits: &DictConstraints,
-    bytes: &'a [u8],
-    offsets: &'a [u32],
+    rows: &BytesRows<'_>,
     wanted: &[u8],
 ) -> Result<bool, DictError> {
     let mut encoder = BytesDictEncoder::<u8, BytesHash>::new(alloc, limits)?;
-    let Some(rows) = BytesRows::try_new(bytes, offsets, None) else {
-        return Ok(false);
-    };
-    let codes = encoder.encode(alloc, &rows)?;
+    let codes = encoder.encode(alloc, rows)?;
     Ok(codes.as_slice() == wanted)
+}
+
+fn limit(max_bytes: usize, max_len: usize) -> DictConstraints {
+    DictConstraints { max_bytes, max_len }
 }
 
 /// A value counts 16, and its length where that is above 12.
 #[test]
 fn limits_of_bytes(rt: HostRuntime) -> Result<(), Fail> {
-    let limit = |max_bytes: usize, max_len: usize| DictConstraints { max_bytes, max_len };
-    let two = b"aaaaaaaaaaaab".as_slice();
-    let ends = [0u32, 12, 13].as_slice();
-    assert!(rt; codes_are(rt.alloc(), &limit(20, usize::MAX), two, ends, &[0])?);
-    assert!(rt; codes_are(rt.alloc(), &limit(32, usize::MAX), two, ends, &[0, 1])?);
-    assert!(rt; codes_are(rt.alloc(), &limit(32, 1), two, ends, &[0])?);
-    let long = b"aaaaaaaaaaaaab".as_slice();
-    let ends = [0u32, 13, 14].as_slice();
-    assert!(rt; codes_are(rt.alloc(), &limit(28, usize::MAX), long, ends, &[])?);
-    assert!(rt; codes_are(rt.alloc(), &limit(29, usize::MAX), long, ends, &[0])?);
-    assert!(rt; codes_are(rt.alloc(), &limit(45, usize::MAX), long, ends, &[0, 1])?);
+    let two = BytesRows::try_new(b"aaaaaaaaaaaab", [0u32, 12, 13].as_slice(), None).ok_or("none")?;
+    assert!(rt; codes_are(rt.alloc(), &limit(20, usize::MAX), &two, &[0])?);
+    assert!(rt; codes_are(rt.alloc(), &limit(32, usize::MAX), &two, &[0, 1])?);
+    assert!(rt; codes_are(rt.alloc(), &limit(32, 1), &two, &[0])?);
+    Ok(())
+}
+
+#[test]
+fn limits_of_long_bytes(rt: HostRuntime) -> Result<(), Fail> {
+    let long = BytesRows::try_new(b"aaaaaaaaaaaaab", [0u32, 13, 14].as_slice(), None).ok_or(
+        "none",
+    )?;
+    assert!(rt; codes_are(rt.alloc(), &limit(28, usize::MAX), &long, &[])?);
+    assert!(rt; codes_are(rt.alloc(), &limit(29, usize::MAX), &long, &[0])?);
+    assert!(rt; codes_are(rt.alloc(), &limit(45, usize::MAX), &long, &[0, 1])?);
+    Ok(())
+}
+
+/// A null counts 16 beside a text, and is a value of the number that there may be.
+#[test]
+fn limits_beside_null(rt: HostRuntime) -> Result<(), Fail> {
+    let first = Some([false, true].as_slice());
+    let rows = BytesRows::try_new(b"a", [0u32, 0, 1].as_slice(), first).ok_or("none")?;
+    assert!(rt; codes_are(rt.alloc(), &limit(31, usize::MAX), &rows, &[0])?);
+    assert!(rt; codes_are(rt.alloc(), &limit(32, usize::MAX), &rows, &[0, 1])?);
+    let second = Some([true, false].as_slice());
+    let rows = BytesRows::try_new(b"a", [0u32, 1, 1].as_slice(), second).ok_or("none")?;
+    assert!(rt; codes_are(rt.alloc(), &limit(usize::MAX, 1), &rows, &[0])?);
+    Ok(())
+}
+
+/// So many texts of two bytes.
+fn short_texts(alloc: Global, count: u16) -> Result<(Vec<u8>, Vec<u32>), DictError> {
+    let mut bytes = Vec::new(alloc);
+    let mut offsets = Vec::new(alloc);
+    offsets.push(0u32)?;
+    for n in 0..count {
+        bytes.push((n / 256) as u8)?;
+        bytes.push((n % 256) as u8)?;
+        offsets.push(2 * u32::from(n) + 2)?;
+    }
+    Ok((bytes, offsets))
+}
+
+/// How many rows have codes of a byte.
+fn short_codes(alloc: Global, rows: &BytesRows<'_>) -> Result<usize, DictError> {
+    let mut encoder = BytesDictEncoder::<u8, BytesHash>::new(alloc, &UNCONSTRAINED)?;
+    Ok(encoder.encode(alloc, rows)?.len())
+}
+
+/// The place of the last of 257 values is no number of a byte.
+#[test]
+fn more_texts_than_codes(rt: HostRuntime) -> Result<(), Fail> {
+    let (bytes, offsets) = short_texts(rt.alloc(), 257)?;
+    let rows = BytesRows::try_new(bytes.as_slice(), offsets.as_slice(), None).ok_or("none")?;
+    assert_eq!(rt; rows.len(), 257);
+    assert_eq!(rt; short_codes(rt.alloc(), &rows)?, 256);
+    Ok(())
+}
+
+#[test]
+fn no_values(rt: HostRuntime) -> Result<(), Fail> {
+    let encoder = BytesDictEncoder::<u8, BytesHash>::new(rt.alloc(), &UNCONSTRAINED)?;
+    let values = encoder.values();
+    assert!(rt; values.bytes.is_empty());
+    assert_eq!(rt; values.offsets, [0u32].as_slice());
+    assert_eq!(rt; values.null, None);
+    let numbers = PrimitiveDictEncoder::<i32, u8>::new(rt.alloc(), &UNCONSTRAINED);
+    assert!(rt; numbers.values().is_empty());
+    Ok(())
+}
+
+/// Without limits all rows have codes.
+#[test]
+fn whole_columns(rt: HostRuntime) -> Result<(), Fail> {
+    let texts = BytesRows::try_new(TEXTS, TEXT_ENDS, Some(TEXT_VALIDITY)).ok_or("none")?;
+    let (encoder, codes) = encode_all_bytes(rt.alloc(), &texts)?;
+    assert_eq!(rt; codes.as_slice(), [0u64, 1, 2, 0, 1, 3, 2, 1].as_slice());
+    assert_eq!(rt; encoder.len(), 4);
+    Ok(())
+}
+
+#[test]
+fn whole_columns_of_numbers(rt: HostRuntime) -> Result<(), Fail> {
+    let numbers = PrimitiveRows::try_new([7i64, -1, 7].as_slice(), None).ok_or("none")?;
+    let (encoder, codes) = encode_all_numbers(rt.alloc(), &numbers)?;
+    assert_eq!(rt; codes.as_slice(), [0u64, 1, 0].as_slice());
+    assert_eq!(rt; encoder.values(), [Some(7i64), Some(-1)].as_slice());
     Ok(())
 }
 
@@ -178,6 +256,44 @@ fn whole_numbers(rt: HostRuntime) -> Result<(), Fail> {
     Ok(())
 }
 
+/// A null takes as many bytes as a number.
+#[test]
+fn number_limits_beside_null(rt: HostRuntime) -> Result<(), Fail> {
+    let validity = Some([true, false].as_slice());
+    let rows = PrimitiveRows::try_new([1i32, 0].as_slice(), validity).ok_or("none")?;
+    assert!(rt; numbers_are(rt.alloc(), &limit(4, usize::MAX), &rows, &[Some(1)], &[0])?);
+    assert!(rt;
+        numbers_are(
+            rt.alloc(),
+            &limit(8, usize::MAX),
+            &rows,
+            &[Some(1), None],
+            &[0, 1]
+        )?
+    );
+    Ok(())
+}
+
+/// Whether the code types without limits are these, without null and with it.
+fn code_types_are<T: NativeValue>(without: PType, with: PType) -> bool {
+    primitive_code_type::<T>(false, &UNCONSTRAINED) == without
+        && primitive_code_type::<T>(true, &UNCONSTRAINED) == with
+}
+
+/// A null beside all numbers of up to 32 bits wants the next type.
+#[test]
+fn code_types(rt: HostRuntime) -> Result<(), Fail> {
+    assert!(rt; code_types_are::<u8>(PType::U8, PType::U16));
+    assert!(rt; code_types_are::<i8>(PType::U8, PType::U16));
+    assert!(rt; code_types_are::<u16>(PType::U16, PType::U32));
+    assert!(rt; code_types_are::<i16>(PType::U16, PType::U32));
+    assert!(rt; code_types_are::<u32>(PType::U32, PType::U64));
+    assert!(rt; code_types_are::<i32>(PType::U32, PType::U64));
+    assert!(rt; code_types_are::<u64>(PType::U64, PType::U64));
+    assert!(rt; code_types_are::<i64>(PType::U64, PType::U64));
+    Ok(())
+}
+
 /// The numbers from 0 to 255, and then null.
 fn bytes_and_null(alloc: Global) -> Result<(Vec<u8>, Vec<bool>), DictError> {
     let mut values = Vec::new(alloc);
@@ -210,25 +326,13 @@ fn all_bytes_and_null(rt: HostRuntime) -> Result<(), Fail> {
     assert_eq!(rt; wide.len(), 257);
     let mut narrow = PrimitiveDictEncoder::<u8, u8>::new(rt.alloc(), &UNCONSTRAINED);
     assert_eq!(rt; narrow.encode(rt.alloc(), &rows)?.len(), 256);
-    assert!(rt;
-        matches!(
-            primitive_code_type::<u8>(true, &UNCONSTRAINED),
-            vortex_number::PType::U16
-        )
-    );
-    assert!(rt;
-        matches!(
-            primitive_code_type::<u8>(false, &UNCONSTRAINED),
-            vortex_number::PType::U8
-        )
-    );
     Ok(())
 }
 
 /// So many numbers that the integer map has in one class.
 fn of_one_class(alloc: Global, count: usize) -> Result<Vec<u64>, DictError> {
     let mut values = Vec::new(alloc);
-    for value in 0..10_000_000u64 {
+    for value in 0..2_000_000u64 {
         let mut hasher = FoldHasher::default();
         value.hash(&mut hasher);
         let hash = hasher.finish();
@@ -242,13 +346,13 @@ fn of_one_class(alloc: Global, count: usize) -> Result<Vec<u64>, DictError> {
 /// Values of one class are found by their order after the first, and get the codes that others get.
 #[test]
 fn numbers_that_collide(rt: HostRuntime) -> Result<(), Fail> {
-    let values = of_one_class(rt.alloc(), 1000)?;
-    assert_eq!(rt; values.len(), 1000);
+    let values = of_one_class(rt.alloc(), 400)?;
+    assert_eq!(rt; values.len(), 400);
     let rows = PrimitiveRows::try_new(values.as_slice(), None).ok_or("no rows")?;
     let mut encoder = PrimitiveDictEncoder::<u64, u32>::new(rt.alloc(), &UNCONSTRAINED);
     for _ in 0..2 {
         let codes = encoder.encode(rt.alloc(), &rows)?;
-        assert_eq!(rt; codes.len(), 1000);
+        assert_eq!(rt; codes.len(), 400);
         assert!(rt;
             codes
                 .iter()
@@ -300,7 +404,7 @@ fn narrow_codes(rt: HostRuntime) -> Result<(), Fail> {
             DictCodes::U64(_)
         )
     );
-    assert!(rt; matches!(bytes_code_type(&UNCONSTRAINED), vortex_number::PType::U64));
-    assert!(rt; matches!(least_code_type(256), vortex_number::PType::U16));
+    assert!(rt; matches!(bytes_code_type(&UNCONSTRAINED), PType::U64));
+    assert!(rt; matches!(least_code_type(256), PType::U16));
     Ok(())
 }

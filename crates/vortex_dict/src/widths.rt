@@ -1,6 +1,6 @@
 //! Types of codes.
 
-ghost use Rattle.std.specs.Prelude.{◌≡◌, ◌*◌, ◌≤◌, [], ◌∷◌, min, IfOk};
+ghost use Rattle.std.specs.Prelude.{◌≡◌, ◌*◌, ◌≤◌, [], ◌∷◌, min, Err, IfOk, OnErr};
 ghost use Rattle.std.specs.List.{All};
 ghost use Rattle.vortex_number.specs.PType.{byte_width_of};
 ghost use Rattle.vortex_dict.specs.Widths.{IsLeastFor, most_possible, codes_in, kind_in};
@@ -55,9 +55,11 @@ fn most_possible(kind: PType, nullable: bool) -> u64
     }
 }
 
-/// The type of the codes of rows of whole numbers, by the limits and by how many such numbers there are.
+/// The type of the codes of rows of whole numbers, by the limits and by how many such numbers there
+/// are.
 pub fn primitive_code_type<T: NativeValue>(nullable: bool, constraints: &DictConstraints) -> PType
-    ensures { IsLeastFor (min constraints.now.max_len (most_possible (8 * byte_width_of T.PTYPE) nullable) ∷ []) result }
+    ensures { IsLeastFor (min constraints.now.max_len
+        (most_possible (8 * byte_width_of T.PTYPE) nullable) ∷ []) result }
 {
     least_code_type((constraints.max_len as u64).min(most_possible(T::PTYPE, nullable)))
 }
@@ -65,7 +67,8 @@ pub fn primitive_code_type<T: NativeValue>(nullable: bool, constraints: &DictCon
 /// The codes as u8.
 fn as_u8(alloc: Global, codes: &[u64]) -> Result<Vec<u8>, DictError>
     requires { All (λ c. c ≤ 255) codes.now }
-    ensures { IfOk result (λ v. v.items ≡ codes.now) }
+    ensures codes { IfOk result (λ v. v.items ≡ codes.now) }
+    ensures memory { OnErr result (result ≡ Err DictError.OutOfMemory) }
 {
     Ok(codes.iter().map(|code| *code as u8).collect(alloc)?)
 }
@@ -73,7 +76,8 @@ fn as_u8(alloc: Global, codes: &[u64]) -> Result<Vec<u8>, DictError>
 /// The codes as u16.
 fn as_u16(alloc: Global, codes: &[u64]) -> Result<Vec<u16>, DictError>
     requires { All (λ c. c ≤ 65535) codes.now }
-    ensures { IfOk result (λ v. v.items ≡ codes.now) }
+    ensures codes { IfOk result (λ v. v.items ≡ codes.now) }
+    ensures memory { OnErr result (result ≡ Err DictError.OutOfMemory) }
 {
     Ok(codes.iter().map(|code| *code as u16).collect(alloc)?)
 }
@@ -81,7 +85,8 @@ fn as_u16(alloc: Global, codes: &[u64]) -> Result<Vec<u16>, DictError>
 /// The codes as u32.
 fn as_u32(alloc: Global, codes: &[u64]) -> Result<Vec<u32>, DictError>
     requires { All (λ c. c ≤ 4294967295) codes.now }
-    ensures { IfOk result (λ v. v.items ≡ codes.now) }
+    ensures codes { IfOk result (λ v. v.items ≡ codes.now) }
+    ensures memory { OnErr result (result ≡ Err DictError.OutOfMemory) }
 {
     Ok(codes.iter().map(|code| *code as u32).collect(alloc)?)
 }
@@ -91,6 +96,7 @@ impl DictCodes {
     pub fn narrowed(alloc: Global, codes: &[u64]) -> Result<DictCodes, DictError>
         ensures codes { IfOk result (λ c. codes_in c ≡ codes.now) }
         ensures width { IfOk result (λ c. IsLeastFor codes.now (kind_in c)) }
+        ensures memory { OnErr result (result ≡ Err DictError.OutOfMemory) }
     {
         if codes.iter().all(|code| *code <= 0xFF) {
             return Ok(DictCodes::U8(as_u8(alloc, codes)?));

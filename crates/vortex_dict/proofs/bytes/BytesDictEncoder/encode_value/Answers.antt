@@ -1,4 +1,5 @@
-use Rattle.std.proofs.Common.{◌==◌, ◌+◌, ap, sym, ◌∙◌, arith, Result, Ok, Err, OnErr, map, length, not, cond, Some, None}
+use Rattle.std.proofs.Common.{◌==◌, ◌+◌, ap, sym, ◌∙◌, arith, Result, Ok, Err, OnErr, map, length}
+use Rattle.std.proofs.Common.{not, cond, Some, None}
 use Rattle.std.specs.Option.{option_map}
 use Rattle.std.proofs.lemmas.List.{length-map}
 use Rattle.vortex_codes.specs.Keys.{Key, same_key}
@@ -6,7 +7,8 @@ use Rattle.vortex_codes.proofs.KeyLemmas.{same_key-Decides}
 use Rattle.vortex_dict.specs.Limits.{bytes_over}
 use Rattle.vortex_dict.specs.KeyRows.{bytes_or_null}
 use Rattle.vortex_dict.proofs.ValueLemmas.{step, new_is, bytes_apart, with_code, none_of, coded}
-use Rattle.vortex_dict.proofs.BytesLemmas.{sum_rows, counted_bound, over_is, bytes_fit, code_fits, codes_more, count_more}
+use Rattle.vortex_dict.proofs.BytesLemmas.{sum_rows, counted_bound, over_is, bytes_fit, code_fits}
+use Rattle.vortex_dict.proofs.BytesLemmas.{codes_more, count_more}
 use Rattle.vortex_dict.proofs.bytes.BytesDictEncoder.encode_value.Goals as goal
 
 on_err : {T E P : Type 0} (r : Result T E) → P → OnErr r P

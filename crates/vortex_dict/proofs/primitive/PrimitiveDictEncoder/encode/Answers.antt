@@ -1,11 +1,12 @@
-use Rattle.std.proofs.Common.{refl, ◌≡◌, ◌+◌, [], ◌∷◌, ap, ◌∙◌, arith, Result, Ok, Err, OnErr, map, length, suc, ◌*◌, mul-suc}
+use Rattle.std.proofs.Common.{refl, ◌≡◌, ◌+◌, [], ◌∷◌, ap, ◌∙◌, arith, Result, Ok, Err, OnErr, map}
+use Rattle.std.proofs.Common.{length, suc, ◌*◌, mul-suc}
 use Rattle.std.proofs.lemmas.List.{length-map, map-append}
 use Rattle.vortex_number.specs.PType.{byte_width_of}
 use Rattle.vortex_terms.specs.Row.{null_row}
 use Rattle.vortex_dict.specs.KeyRows.{number_or_null}
 use Rattle.vortex_dict.specs.Encoding.{code_number}
 use Rattle.vortex_dict.specs.Limits.{numbers_over}
-use Rattle.vortex_dict.proofs.EncodingLemmas.{more_by, stops_by, part_by, too_large}
+use Rattle.vortex_dict.proofs.EncodingLemmas.{start, part, more_by, stops_by, part_by, too_large}
 use Rattle.vortex_dict.proofs.NumberLemmas.{sum_widths}
 use Rattle.vortex_dict.proofs.ValueLemmas.{err_is}
 use Rattle.vortex_dict.proofs.SliceLemmas.{got}
@@ -14,6 +15,13 @@ use Rattle.vortex_dict.proofs.primitive.PrimitiveDictEncoder.encode.Goals as goa
 on_err : {T E P : Type 0} (r : Result T E) → P → OnErr r P
 on_err (Ok x) p = tt
 on_err (Err e) p = p
+
+pub returns-in_err-codes-clause-part : goal.returns-in_err-codes-clause-part
+returns-in_err-codes-clause-part g c =
+    let over = numbers_over g.Code.WholeNumber.format (byte_width_of g.T.NativePType.PTYPE) c.args.self.now.constraints in
+    let held = c.args.self.now.values in
+    let rows = map (number_or_null g.T.WholeNumber.number) c.args.rows.now in
+    on_err c.from_residual.result (part over held rows 0 held [] (start over held rows c.law.ensures.distinct) held refl (omega arith))
 
 pub returns-in_err-push-in-Ok-Some-clause-part : goal.returns-in_err-push-in-Ok-Some-clause-part
 returns-in_err-push-in-Ok-Some-clause-part g c = on_err c.from_residual-in_err-push-in-Ok-Some.result (part_by (numbers_over g.Code.WholeNumber.format (byte_width_of g.T.NativePType.PTYPE) c.args.self.now.constraints) _ _ _ _ _ c.loop-i.invariant.0 _ _ (got (number_or_null g.T.WholeNumber.number) c.args.rows.now c.loop-i.i _ null_row c.get.ensures) (let n = length-map c.args.rows.now (number_or_null g.T.WholeNumber.number) in omega (arith, n, c.loop-i-test.true, c.len-i-end.ensures)) _ (rw (c.loop-i.invariant.1, c.in-Ok-Some.field-0-is) at c.in-Ok-Some.ensures.encoded))

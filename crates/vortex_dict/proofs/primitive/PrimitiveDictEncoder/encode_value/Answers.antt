@@ -1,10 +1,12 @@
-use Rattle.std.proofs.Common.{ap, sym, ◌∙◌, Result, Ok, Err, OnErr, not, ◌||◌, nat_le, pos, Some, None}
+use Rattle.std.proofs.Common.{ap, sym, ◌∙◌, Result, Ok, Err, OnErr, not, ◌||◌, nat_le, pos, Some}
+use Rattle.std.proofs.Common.{None}
 use Rattle.std.specs.Option.{option_eq}
 use Rattle.vortex_number.specs.PType.{byte_width_of}
 use Rattle.vortex_dict.specs.KeyRows.{number_or_null}
 use Rattle.vortex_number.specs.Format.{fits}
 use Rattle.vortex_dict.specs.Limits.{numbers_over, most_values}
-use Rattle.vortex_dict.proofs.ValueLemmas.{step, new_is, numbers_apart, option_eq-Decides, with_code, none_of, coded}
+use Rattle.vortex_dict.proofs.ValueLemmas.{step, new_is, numbers_apart, option_eq-Decides}
+use Rattle.vortex_dict.proofs.ValueLemmas.{with_code, none_of, coded}
 use Rattle.vortex_dict.proofs.NumberLemmas.{full_is, numbers_fit}
 use Rattle.vortex_dict.proofs.BytesLemmas.{code_fits}
 use Rattle.vortex_dict.proofs.primitive.PrimitiveDictEncoder.encode_value.Goals as goal

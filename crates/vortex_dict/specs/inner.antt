@@ -1,0 +1,4 @@
+pub mod DictionaryCode
+pub mod Kept
+pub mod Numbers
+pub mod Step
