@@ -9,9 +9,9 @@ use std::process::ExitCode;
 use std::rt::Env;
 use std::sync::ledger::{Blank, Ledger};
 use std::{env, io};
-use vortex_stream::{ReadSource, WriteSink};
 use vortex_select::run;
 use vortex_steps::Steps;
+use vortex_stream::{ReadSource, WriteSink};
 
 /// The words of the command line cannot be had, for another reason than lack of memory.
 const NO_WORDS: u8 = 1;

@@ -1,6 +1,6 @@
-use vortex_flat::*;
 use std::alloc::Global;
 use std::test::Fail;
+use vortex_flat::*;
 
 /// The type of nulls: a kind, and a table without fields.
 const NULL_TYPE: [u32; 12] = [

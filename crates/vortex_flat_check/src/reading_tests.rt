@@ -1,5 +1,5 @@
-use vortex_flat::*;
 use std::test::Fail;
+use vortex_flat::*;
 
 /// A message that announces a type, without its length of four bytes: its header, and its body, a
 /// 32-bit integer.

@@ -68,6 +68,7 @@ array_is b p kind e = rw e (rows_are (or_zero (number_field b p 0 4)))
     names_are : (rows : ℕ) (v : Option _) → option_map content_head ((v >>= names_in b) >>= λ ns. Some (array_content rows ns)) ≡ ((v >>= λ w. known_names (names_in b w)) >>= λ _. Some (record { kind = Array; exponent = 0 }))
     names_are rows None = refl
     names_are rows (Some w) = head_names rows (names_in b w)
+
     rows_are : (r : Option ℕ) → option_map content_head (r >>= λ rows. (or_empty 4 (vector_field b p 1 4) >>= names_in b) >>= λ ns. Some (array_content rows ns)) ≡ (r >>= λ rows. (or_empty 4 (vector_field b p 1 4) >>= λ w. known_names (names_in b w)) >>= λ _. Some (record { kind = Array; exponent = 0 }))
     rows_are None = refl
     rows_are (Some rows) = names_are rows (or_empty 4 (vector_field b p 1 4))

@@ -297,6 +297,7 @@ found_same m n rest left e = (ap (message_in m) e, ap (rest_in rest) e)
     message_in m (more size there) = m
     message_in m (refused e) = m
     message_in m (found n rest) = n
+
     rest_in : List ℕ → Outcome → List ℕ
     rest_in l (more size there) = l
     rest_in l (refused e) = l

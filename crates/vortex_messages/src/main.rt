@@ -19,7 +19,11 @@ fn line<W: Write>(out: &mut W, message: &DecoderMessage) -> io::Result<()> {
         DecoderMessage::DType(dtype) => writeln!(out, "type {dtype}"),
         DecoderMessage::Buffer(buffer) => {
             let exponent = buffer.alignment().exponent();
-            writeln!(out, "buffer of {} bytes, alignment 2^{exponent}", buffer.len())
+            writeln!(
+                out,
+                "buffer of {} bytes, alignment 2^{exponent}",
+                buffer.len()
+            )
         }
     }
 }

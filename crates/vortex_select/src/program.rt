@@ -16,8 +16,8 @@ use crate::whole_output::{counts_within, output_for};
 use crate::words::{Query, query_of};
 use std::alloc::Global;
 use std::sync::ledger::Ledger;
-use vortex_stream::{Sink, SinkFailed, Source, write_all};
 use vortex_steps::Steps;
+use vortex_stream::{Sink, SinkFailed, Source, write_all};
 
 /// Does what the words ask for: reads a stream of `source` to its end, writes the stream of the
 /// rows that are kept to `sink`, and leaves one line on `note`. Both are flushed.

@@ -5,8 +5,8 @@ use std::marker::Brand;
 use std::sync::ledger::{Blank, Ledger};
 use std::test::Fail;
 use vortex_select::*;
-use vortex_stream::{VecSink, VecSource};
 use vortex_steps::Steps;
+use vortex_stream::{VecSink, VecSource};
 
 // The message of a type: Primitive I64, never null.
 pub(crate) const TYPE: [u8; 116] = [
