@@ -6,7 +6,7 @@
 --     Leads              whether what a mask selects may lie behind a step
 --     IsStepInto         the masks select the same, seen from the first step and from behind it
 use Rattle.std.specs.Prelude.{◌≡◌, Bool, true, false, ◌&&◌, nat_eq, List, [], ◌∷◌, length}
-use Rattle.std.specs.Prelude.{Option, Some, Result, Ok, Err}
+use Rattle.std.specs.Prelude.{Option, Result, Ok, Err}
 use Rattle.vortex_terms.specs.Path.{PathPart, path_part_eq}
 use Rattle.vortex_names.specs.declared.error.DTypeError.{DTypeError}
 use Rattle.vortex_names.specs.declared.error.DTypeError.TheVariants as error
