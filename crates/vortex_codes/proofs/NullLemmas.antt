@@ -1,7 +1,6 @@
 -- Where null stands among keys in one buffer.
-use Rattle.std.proofs.Common.{◌≡◌, ◌==◌, ◌≢◌, ℕ, suc, ◌-◌, ◌^◌, ◌<◌, inl, inr, Bool, true, false}
-use Rattle.std.proofs.Common.{cond, Some, None, List, length, get_or, refl, ap, sym, subst, ◌∙◌}
-use Rattle.std.proofs.Common.{arith}
+use Rattle.std.proofs.Common.{◌≡◌, ◌==◌, ◌≢◌, ℕ, suc, ◌-◌, ◌^◌, inl, inr, Bool, true, false}
+use Rattle.std.proofs.Common.{cond, Some, None, List, length, get_or, refl, ap, sym, ◌∙◌, arith}
 use Rattle.std.specs.List.{slice_range}
 use Rattle.std.proofs.lemmas.Bool.{eqb-true, eq-eqb}
 use Rattle.vortex_codes.specs.Keys.{key_at, keys_of, same_key}

@@ -5,13 +5,13 @@
 --     PassesSize            that the values would have more bytes than they may
 --     code_number           the number that a code is
 -- `over` tells whether a value is over a limit beside the values so far.
-use Rattle.std.specs.Prelude.{◌≡◌, ℕ, ◌^◌, ◌<◌, ◌≤◌, Bool, true, false, not, ◌&&◌, ◌||◌, cond, List}
-use Rattle.std.specs.Prelude.{[], ◌∷◌, ◌++◌, length, take, get_or, Option, Some, None, ℤ}
+use Rattle.std.specs.Prelude.{◌≡◌, ℕ, ◌^◌, ◌<◌, ◌≤◌, Bool, true, false, not, ◌&&◌, List}
+use Rattle.std.specs.Prelude.{◌++◌, length, take, get_or, ℤ}
 use Rattle.std.specs.Prelude.{unsigned_abs}
 use Rattle.std.specs.List.{list_any, sum_by}
 use Rattle.vortex_terms.specs.Row.{Row, null_row}
 use Rattle.vortex_terms.specs.Order.{row_eq}
-use Rattle.vortex_terms.specs.Distinct.{distinct, codes_of, first_place}
+use Rattle.vortex_terms.specs.Distinct.{distinct, codes_of}
 
 -- whether the row stands among these
 abbrev pub stands : Row → List Row → Bool

@@ -1,7 +1,7 @@
 //! Rows of bytes as values and codes.
 
 ghost use Rattle.std.specs.Prelude.{◌≡◌, ℕ, ◌+◌, ◌*◌, ◌^◌, ◌<◌, ◌≤◌, [], map, length, pos, false};
-ghost use Rattle.std.specs.Prelude.{IfErr, IfOk, OnErr, Err, Option, Some, None, IsTrue, cond};
+ghost use Rattle.std.specs.Prelude.{IfErr, IfOk, OnErr, Err, Some, None, IsTrue, cond};
 ghost use Rattle.std.specs.Prelude.{◌==◌, ◌↔◌, ◌-◌, if◌then◌else◌};
 ghost use Rattle.std.specs.List.{sum_by};
 ghost use Rattle.std.specs.Option.{option_map, unwrap_or};

@@ -1,7 +1,7 @@
 //! Rows of whole numbers as values and codes.
 
 ghost use Rattle.std.specs.Prelude.{◌≡◌, ℕ, ◌+◌, ◌*◌, ◌^◌, ◌<◌, ◌≤◌, [], map, length, pos, false};
-ghost use Rattle.std.specs.Prelude.{IfErr, IfOk, OnErr, Err, Option, Some, IsTrue, ◌↔◌, not, ◌||◌};
+ghost use Rattle.std.specs.Prelude.{IfErr, IfOk, OnErr, Err, Some, IsTrue, ◌↔◌, not, ◌||◌};
 ghost use Rattle.std.specs.Prelude.{nat_le};
 ghost use Rattle.std.specs.List.{sum_by};
 ghost use Rattle.std.specs.Option.{option_map};
