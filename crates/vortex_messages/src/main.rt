@@ -48,13 +48,17 @@ fn list<S: Source + Drop, W: Write>(
 }
 
 fn main(rt: HostRuntime) -> ExitCode {
-    let mut out = io::writer(&rt);
-    match list(rt.alloc(), ReadSource::new(rt.stdin()), &mut out) {
-        Ok(None) => ExitCode::from(0),
-        Ok(Some(error)) => {
+    let alloc = rt.alloc();
+    let Ok(mut out) = BufWriter::new(alloc, io::writer(&rt)) else {
+        return ExitCode::from(IpcError::OutOfMemory.number());
+    };
+    let listed = list(alloc, ReadSource::new(rt.stdin()), &mut out);
+    match (listed, out.flush()) {
+        (Ok(None), Ok(())) => ExitCode::from(0),
+        (Ok(Some(error)), Ok(())) => {
             let _ = writeln!(rt.stderr(), "{error}");
             ExitCode::from(error.number())
         }
-        Err(_) => ExitCode::from(NO_OUTPUT),
+        _ => ExitCode::from(NO_OUTPUT),
     }
 }
