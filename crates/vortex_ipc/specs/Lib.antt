@@ -4,4 +4,5 @@ pub mod Decoding
 pub mod Decoder
 pub mod Reader
 pub mod Cutting
+pub mod Runs
 pub mod inner
