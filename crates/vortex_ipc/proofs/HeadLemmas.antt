@@ -1,15 +1,14 @@
 -- What is kept of a header, kind by kind.
 use Rattle.std.specs.Prelude.{⊤}
-use Rattle.std.proofs.Common.{◌≡◌, ℕ, ◌+◌, ◌-◌, ◌<◌, ◌≤◌, suc, cond, eqb, leb, List, [], ◌∷◌, Option, Some, None, refl, sym, ap, ◌∙◌, arith}
+use Rattle.std.proofs.Common.{◌≡◌, ℕ, ◌+◌, ◌-◌, ◌<◌, ◌≤◌, suc, cond, leb, List, [], ◌∷◌, Option, Some, None, refl, sym, ap, ◌∙◌, arith}
 use Rattle.std.specs.Option.{option_map}
-use Rattle.std.proofs.lemmas.Bool.{le-leb, lt-leb, eq-eqb, ne_eqb}
+use Rattle.std.proofs.lemmas.Bool.{le-leb, lt-leb, ne_eqb}
 use Rattle.vortex_prelude.specs.Chain.{◌>>=◌}
 use Rattle.vortex_prelude.specs.Absent.{or_zero}
 use Rattle.vortex_prelude.specs.Elements.{elements}
 use Rattle.vortex_flat.specs.Targets.{number_field, vector_field, or_empty}
-use Rattle.vortex_stream.specs.Header.{array_content, buffer_content, type_content, content_at, names_in}
-use Rattle.vortex_stream.specs.declared.kind.MessageKind.TheVariants.{Array, Buffer, DType}
-use Rattle.vortex_ipc.specs.declared.header.ContentHead.{ContentHead}
+use Rattle.vortex_stream.specs.Header.{array_content, buffer_content, content_at, names_in}
+use Rattle.vortex_stream.specs.declared.kind.MessageKind.TheVariants.{Array, DType}
 use Rattle.vortex_ipc.specs.inner.Heads.{array_head_at, content_head, known_names}
 
 -- ---- names
@@ -68,6 +67,7 @@ array_is b p kind e = rw e (rows_are (or_zero (number_field b p 0 4)))
     names_are : (rows : ℕ) (v : Option _) → option_map content_head ((v >>= names_in b) >>= λ ns. Some (array_content rows ns)) ≡ ((v >>= λ w. known_names (names_in b w)) >>= λ _. Some (record { kind = Array; exponent = 0 }))
     names_are rows None = refl
     names_are rows (Some w) = head_names rows (names_in b w)
+
     rows_are : (r : Option ℕ) → option_map content_head (r >>= λ rows. (or_empty 4 (vector_field b p 1 4) >>= names_in b) >>= λ ns. Some (array_content rows ns)) ≡ (r >>= λ rows. (or_empty 4 (vector_field b p 1 4) >>= λ w. known_names (names_in b w)) >>= λ _. Some (record { kind = Array; exponent = 0 }))
     rows_are None = refl
     rows_are (Some rows) = names_are rows (or_empty 4 (vector_field b p 1 4))

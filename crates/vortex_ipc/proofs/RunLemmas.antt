@@ -2,7 +2,6 @@
 use Rattle.std.proofs.Common.{◌≡◌, ℕ, Bool, true, false, List, [], ◌∷◌, ◌++◌, None, Result, Ok, Err, refl, sym, ap, subst, ◌∙◌, append_assoc, append-nil}
 use Rattle.vortex_stream.specs.declared.error.IpcError.{IpcError}
 use Rattle.vortex_stream.specs.declared.error.IpcError.TheVariants as error
-use Rattle.vortex_ipc.specs.declared.message.DecoderMessage.{DecoderMessage}
 use Rattle.vortex_ipc.specs.declared.message.PollRead.{PollRead}
 use Rattle.vortex_ipc.specs.declared.message.PollRead.TheVariants as poll
 use Rattle.vortex_ipc.specs.Message.{Message, message_of}
@@ -13,7 +12,7 @@ use Rattle.vortex_ipc.specs.Runs.{Event, pushed, waited, read, pushed_bytes, rea
 use Rattle.vortex_ipc.proofs.Outcomes.{one_reading, settled}
 
 -- the answer to an outcome that is no message
-answer_to : Result PollRead IpcError → Outcome → Result PollRead IpcError
+abbrev answer_to : Result PollRead IpcError → Outcome → Result PollRead IpcError
 answer_to a (more size there) = Ok (poll.NeedMore size)
 answer_to a (refused e) = Err e
 answer_to a (found m rest) = a

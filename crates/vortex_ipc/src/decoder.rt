@@ -80,11 +80,7 @@ impl MessageDecoder {
     /// Reads the next message, of whatever kind, from the front of the queue.
     ///
     /// After an error each further call fails.
-    pub fn read_next(
-        &mut self,
-        alloc: Global,
-        bytes: &mut BytesQueue,
-    ) -> Result<PollRead, IpcError>
+    pub fn read_next(&mut self, alloc: Global, bytes: &mut BytesQueue) -> Result<PollRead, IpcError>
         ensures { ReadsNext None self.old bytes.old result self.new bytes.new }
     {
         self.read_wanted(alloc, bytes, None)
@@ -197,11 +193,7 @@ fn header_size(prefix: &[u8]) -> usize
 
 /// Takes the header behind its length, where it stands there.
 #[tactic(auto, using(crate::proofs::QueueLemmas::lost_none, crate::proofs::QueueLemmas::lost_taken, crate::proofs::TakenLemmas::none_taken, crate::proofs::TakenLemmas::is_taken, crate::proofs::TakenLemmas::taken_parts))]
-fn take_header(
-    alloc: Global,
-    prefix: ByteBuffer,
-    bytes: &mut BytesQueue,
-) -> Result<Begun, IpcError>
+fn take_header(alloc: Global, prefix: ByteBuffer, bytes: &mut BytesQueue) -> Result<Begun, IpcError>
     requires { length prefix.bytes ≡ 4 }
     ensures begun { IfOk result (λ b. IsBegun b) }
     ensures kept { IfOk result (λ b. prefix.bytes ++ bytes.old ≡ begun_bytes b ++ bytes.new) }

@@ -17,7 +17,10 @@ pub use message::{DecoderMessage, PollRead};
 pub use queue::BytesQueue;
 pub use read_state::ReadState;
 pub use sync_reader::SyncMessageReader;
-pub use vortex_stream::{IpcError, MessageKind, Sink, SinkCounts, SinkFailed, Source, SourceCounts, SourceFailed, VecSink, VecSource};
+pub use vortex_stream::{
+    IpcError, MessageKind, Sink, SinkCounts, SinkFailed, Source, SourceCounts, SourceFailed,
+    VecSink, VecSource,
+};
 
 #[cfg(test)]
 mod reader_tests;

@@ -36,7 +36,7 @@ impl Model for ReadState {
     ghost use Rattle.std.specs.Prelude.{◌≡◌, ◌≤◌, false, length};
     ghost use Rattle.vortex_ipc.specs.Reader.{ReaderState};
     ghost use Rattle.vortex_ipc.specs.inner.Pieces.{GavePiece};
-ghost use Rattle.vortex_ipc.specs.inner.Came.{IsReady};
+    ghost use Rattle.vortex_ipc.specs.inner.Came.{IsReady};
 
     ghost Value = { ReaderState };
 

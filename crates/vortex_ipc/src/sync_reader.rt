@@ -25,8 +25,9 @@ impl<S: Source + Drop> SyncMessageReader<S> {
     ) -> Result<SyncMessageReader<S>, IpcError>
         ensures { MatchResult result
             (λ r. r ≡ record {
-            state = record { done = false; reads = 0; given = 0; most = 2 ^ 64 - 1 };
-            source = source })
+              state = record { done = false; reads = 0; given = 0; most = 2 ^ 64 - 1 };
+              source = source;
+            })
             (λ e. e ≡ IpcError.OutOfMemory) }
     {
         SyncMessageReader::with_max_reads(alloc, source, registry, u64::MAX)
@@ -41,8 +42,9 @@ impl<S: Source + Drop> SyncMessageReader<S> {
     ) -> Result<SyncMessageReader<S>, IpcError>
         ensures { MatchResult result
             (λ r. r ≡ record {
-            state = record { done = false; reads = 0; given = 0; most = max_reads };
-            source = source })
+              state = record { done = false; reads = 0; given = 0; most = max_reads };
+              source = source;
+            })
             (λ e. e ≡ IpcError.OutOfMemory) }
     {
         match ReadState::new(alloc, registry, max_reads) {

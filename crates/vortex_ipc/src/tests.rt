@@ -5,13 +5,11 @@ use std::alloc::Global;
 use std::test::Fail;
 use vortex_array::ArrayRegistry;
 
-
-
 /// The message of the buffer [1, 2, 3] of alignment 0.
 pub(crate) const BUFFER: [u8; 71] = [
     64, 0, 0, 0, 24, 0, 0, 0, 0, 0, 0, 0, 12, 0, 22, 0, 20, 0, 21, 0, 16, 0, 8, 0, 0, 0, 0, 0, 16,
-    0, 0, 0, 0, 0, 0, 0, 3, 0, 0, 0, 0, 0, 0, 0, 16, 0, 0, 0, 0, 2, 0, 0, 6, 0, 5, 0, 4, 0, 0, 0, 8,
-    0, 0, 0, 0, 0, 0, 0, 1, 2, 3,
+    0, 0, 0, 0, 0, 0, 0, 3, 0, 0, 0, 0, 0, 0, 0, 16, 0, 0, 0, 0, 2, 0, 0, 6, 0, 5, 0, 4, 0, 0, 0,
+    8, 0, 0, 0, 0, 0, 0, 0, 1, 2, 3,
 ];
 
 /// What was read, in short.
@@ -69,7 +67,11 @@ fn fewer_bytes_than_a_part(rt: HostRuntime) -> Result<(), Fail> {
         (70, Read::NeedMore(3)),
         (71, Read::Buffer(3)),
     ] {
-        assert_eq!(rt; decoded(rt.alloc(), &BUFFER[..count])?, want, "{count} bytes");
+        assert_eq!(rt;
+            decoded(rt.alloc(), &BUFFER[..count])?,
+            want,
+            "{count} bytes"
+        );
     }
     Ok(())
 }
