@@ -1,11 +1,11 @@
 -- What a decoder between two messages makes of bytes in hand.
-use Rattle.std.proofs.Common.{◌≡◌, ℕ, Bool, true, false, List, [], ◌++◌, Option, None, Ok, Err, sym, subst}
+use Rattle.std.proofs.Common.{◌≡◌, ℕ, true, false, List, None, Ok, Err, subst}
 use Rattle.vortex_stream.specs.declared.error.IpcError.{IpcError}
 use Rattle.vortex_stream.specs.declared.error.IpcError.TheVariants as error
 use Rattle.vortex_ipc.specs.declared.message.DecoderMessage.{DecoderMessage}
 use Rattle.vortex_ipc.specs.declared.message.PollRead.TheVariants as poll
 use Rattle.vortex_ipc.specs.Message.{message_of}
-use Rattle.vortex_ipc.specs.Decoding.{Decodes, more, refused, found}
+use Rattle.vortex_ipc.specs.Decoding.{Decodes, found}
 use Rattle.vortex_ipc.specs.Decoder.{DecoderState, fresh, FailsBy, ReadsNext}
 use Rattle.vortex_ipc.specs.Reader.{FailsOn, IsCut}
 

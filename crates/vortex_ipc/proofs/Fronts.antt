@@ -1,9 +1,9 @@
 -- The front of bytes is one thing, and stays what it is when more bytes follow.
-use Rattle.std.proofs.Common.{◌≡◌, ◌⊎◌, inl, inr, ℕ, ◌+◌, ◌<◌, ◌≤◌, List, [], ◌++◌, length, take, drop, Option, Some, None, refl, sym, ap, subst, ◌∙◌, arith, append_assoc}
+use Rattle.std.proofs.Common.{◌≡◌, inl, inr, ℕ, ◌+◌, ◌≤◌, List, [], ◌++◌, length, take, drop, Option, Some, None, sym, ap, subst, ◌∙◌, arith, append_assoc}
 use Rattle.std.proofs.Math.Seq.{take-append_seam, drop-append_seam}
 use Rattle.std.proofs.lemmas.List.{length-append, nil_from_length}
 use Rattle.vortex_flat.specs.Numbers.{little_endian}
-use Rattle.vortex_stream.specs.Header.{Content, Header, header_of, kind_of}
+use Rattle.vortex_stream.specs.Header.{Content, Header, header_of}
 use Rattle.vortex_stream.specs.Stream.{IsMessage}
 use Rattle.vortex_stream.specs.declared.kind.MessageKind.{MessageKind}
 use Rattle.vortex_ipc.specs.Message.{Message}

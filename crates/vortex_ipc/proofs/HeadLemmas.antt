@@ -1,15 +1,14 @@
 -- What is kept of a header, kind by kind.
 use Rattle.std.specs.Prelude.{⊤}
-use Rattle.std.proofs.Common.{◌≡◌, ℕ, ◌+◌, ◌-◌, ◌<◌, ◌≤◌, suc, cond, eqb, leb, List, [], ◌∷◌, Option, Some, None, refl, sym, ap, ◌∙◌, arith}
+use Rattle.std.proofs.Common.{◌≡◌, ℕ, ◌+◌, ◌-◌, ◌<◌, ◌≤◌, suc, cond, leb, List, [], ◌∷◌, Option, Some, None, refl, sym, ap, ◌∙◌, arith}
 use Rattle.std.specs.Option.{option_map}
-use Rattle.std.proofs.lemmas.Bool.{le-leb, lt-leb, eq-eqb, ne_eqb}
+use Rattle.std.proofs.lemmas.Bool.{le-leb, lt-leb, ne_eqb}
 use Rattle.vortex_prelude.specs.Chain.{◌>>=◌}
 use Rattle.vortex_prelude.specs.Absent.{or_zero}
 use Rattle.vortex_prelude.specs.Elements.{elements}
 use Rattle.vortex_flat.specs.Targets.{number_field, vector_field, or_empty}
-use Rattle.vortex_stream.specs.Header.{array_content, buffer_content, type_content, content_at, names_in}
-use Rattle.vortex_stream.specs.declared.kind.MessageKind.TheVariants.{Array, Buffer, DType}
-use Rattle.vortex_ipc.specs.declared.header.ContentHead.{ContentHead}
+use Rattle.vortex_stream.specs.Header.{array_content, buffer_content, content_at, names_in}
+use Rattle.vortex_stream.specs.declared.kind.MessageKind.TheVariants.{Array, DType}
 use Rattle.vortex_ipc.specs.inner.Heads.{array_head_at, content_head, known_names}
 
 -- ---- names

@@ -10,3 +10,4 @@ pub mod Underway
 pub mod Steps
 pub mod BufLemmas
 pub mod States
+pub mod RunLemmas

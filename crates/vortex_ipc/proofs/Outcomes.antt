@@ -1,22 +1,20 @@
 -- Bytes come to one outcome, which stays what it is when more bytes follow.
-use Rattle.std.proofs.Common.{◌≡◌, ◌⊎◌, inl, inr, ℕ, ◌+◌, ◌<◌, ◌≤◌, Bool, true, false, cond, leb, List, [], ◌∷◌, ◌++◌, length, take, drop, Option, Some, None, refl, sym, ap, subst, ◌∙◌, arith, append_assoc}
+use Rattle.std.proofs.Common.{◌≡◌, ◌⊎◌, inl, inr, ℕ, ◌<◌, ◌≤◌, Bool, true, false, cond, leb, List, [], ◌∷◌, ◌++◌, length, take, drop, Option, Some, None, refl, sym, ap, subst, ◌∙◌, arith, append_assoc}
 use Rattle.std.proofs.Math.Seq.{take-append_seam, drop-append_seam}
 use Rattle.std.proofs.lemmas.Bool.{le-leb, leb-false, leb-true, lt-leb}
 use Rattle.std.proofs.lemmas.List.{append_cancel_left, length-append, length-take-le, take-append-drop, take-append-le}
 use Rattle.vortex_terms.specs.Term.{Term}
 use Rattle.vortex_schema.specs.TypeAt.{IsTypeIn}
 use Rattle.vortex_schema.proofs.InPlace.{one_in}
-use Rattle.vortex_buffer.specs.Buffer.{Buffer}
 use Rattle.vortex_flat.specs.Numbers.{little_endian}
 use Rattle.vortex_stream.specs.Header.{Content, Header, array_content, buffer_content, type_content, header_of, kind_of}
 use Rattle.vortex_stream.specs.Stream.{IsMessage}
 use Rattle.vortex_stream.proofs.StreamLemmas.{message_append}
 use Rattle.vortex_stream.specs.declared.kind.MessageKind.{MessageKind}
-use Rattle.vortex_stream.specs.declared.kind.MessageKind.TheVariants as kinds
 use Rattle.vortex_stream.specs.declared.error.IpcError.{IpcError}
 use Rattle.vortex_stream.specs.declared.error.IpcError.TheVariants as error
 use Rattle.vortex_ipc.specs.Message.{Message, StandsFor, buffer_message, type_message}
-use Rattle.vortex_ipc.specs.Decoding.{Outcome, more, refused, found, Decodes, BeginsWithLength, BeginsWithHeader, HasHeader, HasNoHeader, HasOtherKind, HasNoType, HasMessage, NeedsMore, IsFlawed, is_answered}
+use Rattle.vortex_ipc.specs.Decoding.{Outcome, more, refused, found, Decodes, BeginsWithLength, BeginsWithHeader, HasHeader, NeedsMore, IsFlawed, is_answered}
 use Rattle.vortex_ipc.specs.Reader.{IsCut}
 use Rattle.vortex_ipc.specs.Cutting.{behind, IsSettled, IsLast, DecodesAll}
 use Rattle.vortex_ipc.proofs.Fronts.{begin_append, header_append, length_append, message_header, regroup, saying}

@@ -1,5 +1,5 @@
 -- The state of a reader after a message was read.
-use Rattle.std.proofs.Common.{◌≡◌, ◌⊎◌, inl, inr, ℕ, ◌+◌, ◌-◌, ◌^◌, ◌<◌, ◌≤◌, Bool, true, false, List, [], length, Option, Some, None, Result, Ok, Err, refl, sym, ap, subst, ◌∙◌, arith}
+use Rattle.std.proofs.Common.{◌≡◌, inl, inr, ℕ, ◌+◌, ◌-◌, ◌^◌, ◌<◌, ◌≤◌, true, false, List, Option, Some, None, Result, Ok, Err, refl, sym, ap, subst, ◌∙◌, arith}
 use Rattle.vortex_stream.specs.Counts.{raised_128}
 use Rattle.vortex_stream.specs.declared.counts.SourceCounts.{SourceCounts}
 use Rattle.vortex_stream.specs.declared.kind.MessageKind.{MessageKind}
@@ -7,7 +7,7 @@ use Rattle.vortex_stream.specs.declared.error.IpcError.{IpcError}
 use Rattle.vortex_stream.specs.declared.error.IpcError.TheVariants as error
 use Rattle.vortex_ipc.specs.declared.message.DecoderMessage.{DecoderMessage}
 use Rattle.vortex_ipc.specs.declared.read_state.Taken.{Taken}
-use Rattle.vortex_ipc.specs.Reader.{AllGave, AnswersIn, GoesOn, ReaderState, ReadsMessage, SourceReads, StaysDone, after_call, is_done}
+use Rattle.vortex_ipc.specs.Reader.{AllGave, AnswersIn, GoesOn, ReaderState, ReadsMessage, SourceReads, after_call, is_done}
 use Rattle.vortex_ipc.specs.inner.Came.{Came}
 
 -- ---- the numbers

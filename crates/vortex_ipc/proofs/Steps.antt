@@ -1,5 +1,5 @@
 -- What a step of a decoder makes of a call.
-use Rattle.std.proofs.Common.{◌≡◌, ◌⊎◌, inl, inr, ℕ, Bool, true, false, List, [], ◌++◌, Option, Some, None, Result, Ok, Err, refl, sym, ap, subst}
+use Rattle.std.proofs.Common.{◌≡◌, inl, inr, ℕ, true, false, List, [], ◌++◌, Option, Result, Ok, Err, sym, ap, subst}
 use Rattle.std.specs.Prelude.{IfErr}
 use Rattle.vortex_buffer.specs.Buffer.{Buffer}
 use Rattle.vortex_ipc.proofs.QueueLemmas.{lost_more}
@@ -10,7 +10,6 @@ use Rattle.vortex_ipc.specs.declared.decoder.Begun.{Begun}
 use Rattle.vortex_ipc.specs.declared.decoder.Begun.TheVariants as begun
 use Rattle.vortex_ipc.specs.declared.message.PollRead.{PollRead}
 use Rattle.vortex_ipc.specs.declared.message.PollRead.TheVariants as poll
-use Rattle.vortex_ipc.specs.Decoding.{IsFlawed}
 use Rattle.vortex_ipc.specs.Decoder.{DecoderState, FailsBy, ReadsNext}
 use Rattle.vortex_ipc.specs.Queue.{HasLost}
 use Rattle.vortex_ipc.specs.inner.Begun.{Answered, NoHeaderBy, StopsBy, begun_bytes, has_failed}

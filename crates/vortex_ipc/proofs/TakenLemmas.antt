@@ -1,5 +1,5 @@
 -- What a header that was taken says of the bytes.
-use Rattle.std.proofs.Common.{◌≡◌, ◌⊎◌, inl, inr, ℕ, ◌<◌, Bool, true, false, List, [], ◌++◌, length, Option, Some, None, refl, sym, ap, subst, ◌∙◌, arith, append_assoc}
+use Rattle.std.proofs.Common.{◌≡◌, inl, inr, ℕ, ◌<◌, true, false, List, ◌++◌, length, Option, Some, None, refl, sym, ap, subst, ◌∙◌, append_assoc}
 use Rattle.std.specs.Option.{option_map}
 use Rattle.vortex_buffer.specs.Buffer.{Buffer}
 use Rattle.vortex_terms.specs.Term.{Term}
@@ -19,7 +19,7 @@ use Rattle.vortex_ipc.specs.Message.{StandsFor, message_of, buffer_message, type
 use Rattle.vortex_ipc.specs.declared.message.DecoderMessage.TheVariants as messages
 use Rattle.vortex_dtype.specs.declared.dtype.DType.{DType}
 use Rattle.vortex_dtype.specs.DTypes.{term_of}
-use Rattle.vortex_ipc.specs.Decoding.{BeginsWithLength, BeginsWithHeader, HasHeader, HasNoHeader, HasOtherKind, HasNoType, HasMessage, NeedsMore, IsFlawed, is_answered}
+use Rattle.vortex_ipc.specs.Decoding.{BeginsWithLength, HasHeader, HasNoHeader, HasNoType, HasMessage, NeedsMore, IsFlawed, is_answered}
 use Rattle.vortex_ipc.specs.inner.Heads.{content_head, head_of}
 use Rattle.vortex_ipc.specs.inner.Begun.{HeadStandsFor, IsTaken, NoHeaderBy, NoTypeBy, StopsBy, taken_bytes}
 

@@ -1,23 +1,22 @@
 -- What holds while a message is read from a source.
-use Rattle.std.proofs.Common.{◌≡◌, ◌⊎◌, inl, inr, ℕ, ◌+◌, ◌*◌, ◌<◌, ◌≤◌, Bool, true, false, cond, eqb, ltb, ◌&&◌, List, [], ◌++◌, length, take, Option, Some, None, Result, Ok, Err, refl, sym, ap, subst, ◌∙◌, arith, append_assoc, append-nil, zero, suc, ◌-◌}
+use Rattle.std.proofs.Common.{◌≡◌, inl, inr, ℕ, ◌+◌, ◌*◌, ◌<◌, ◌≤◌, Bool, true, false, cond, eqb, ltb, ◌&&◌, List, [], ◌++◌, length, take, Option, Some, None, Result, Ok, Err, refl, sym, ap, subst, ◌∙◌, arith, append_assoc, append-nil, zero, suc, ◌-◌}
 use Rattle.std.proofs.Math.Dec.{eqb-suc-zero}
 use Rattle.std.proofs.KnownBytes.{Consumes-nil, Consumes-trans, Consumes-kept}
 use Rattle.std.proofs.lemmas.List.{length-append, length-take-le, nil_from_length}
 use Rattle.std.proofs.lemmas.Bool.{lt-ltb, ne_eqb, eq-eqb}
 use Rattle.std.specs.Io.KnownBytes.{Consumes, Keeps, IsAtEnd}
-use Rattle.vortex_stream.specs.Counts.{raised_64, raised_128, raised_by, counts_of_read}
+use Rattle.vortex_stream.specs.Counts.{raised_64, raised_128, raised_by}
 use Rattle.vortex_stream.specs.declared.counts.SourceCounts.{SourceCounts}
 use Rattle.vortex_stream.specs.declared.kind.MessageKind.{MessageKind}
 use Rattle.vortex_stream.specs.declared.error.IpcError.{IpcError}
 use Rattle.vortex_stream.specs.declared.error.IpcError.TheVariants as error
 use Rattle.vortex_ipc.specs.declared.message.DecoderMessage.{DecoderMessage}
-use Rattle.vortex_ipc.specs.declared.message.PollRead.{PollRead}
 use Rattle.vortex_ipc.specs.declared.message.PollRead.TheVariants as poll
 use Rattle.vortex_ipc.specs.declared.read_state.Taken.{Taken}
 use Rattle.vortex_ipc.specs.Message.{Message, message_of}
-use Rattle.vortex_ipc.specs.Decoding.{Decodes, NeedsMore, HasMessage, more, refused, found}
+use Rattle.vortex_ipc.specs.Decoding.{NeedsMore, HasMessage}
 use Rattle.vortex_ipc.specs.Decoder.{DecoderState, fresh, FailsBy, ReadsNext}
-use Rattle.vortex_ipc.specs.Reader.{AllGave, AnswersIn, FailsIn, IsCut, ReadsMessage, ToldEnd}
+use Rattle.vortex_ipc.specs.Reader.{AllGave, AnswersIn, FailsIn, IsCut}
 use Rattle.vortex_ipc.specs.inner.Came.{Came, at_end}
 use Rattle.vortex_ipc.specs.inner.Pieces.{TookPiece}
 use Rattle.vortex_ipc.proofs.Fronts.{exact}

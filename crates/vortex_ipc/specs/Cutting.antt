@@ -1,6 +1,5 @@
 -- What a decoder's answers have to do with how bytes are cut.
-use Rattle.std.specs.Prelude.{⊤, ◌≡◌, ℕ, List, [], ◌∷◌, ◌++◌, Option, None}
-use Rattle.vortex_stream.specs.declared.kind.MessageKind.{MessageKind}
+use Rattle.std.specs.Prelude.{⊤, ℕ, List, [], ◌∷◌, ◌++◌, None}
 use Rattle.vortex_ipc.specs.Message.{Message}
 use Rattle.vortex_ipc.specs.Decoding.{Outcome, more, refused, found, Decodes}
 

@@ -6,7 +6,7 @@ use Rattle.vortex_stream.specs.declared.error.IpcError.TheVariants as error
 use Rattle.vortex_ipc.specs.declared.message.PollRead.{PollRead}
 use Rattle.vortex_ipc.specs.declared.message.PollRead.TheVariants as poll
 use Rattle.vortex_ipc.specs.Message.{message_of}
-use Rattle.vortex_ipc.specs.Decoding.{Outcome, more, refused, found, Decodes}
+use Rattle.vortex_ipc.specs.Decoding.{more, refused, found, Decodes}
 use Rattle.vortex_ipc.specs.Queue.{HasLost}
 
 -- the bytes that it has taken of its present message, and whether an earlier call failed

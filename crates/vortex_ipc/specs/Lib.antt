@@ -5,4 +5,5 @@ pub mod Decoder
 pub mod Reader
 pub mod Cutting
 pub mod Encoding
+pub mod Runs
 pub mod inner

@@ -170,16 +170,16 @@ fn read_message<S: Source>(
     source: &mut S,
     decoder: &mut MessageDecoder,
     queue: &mut BytesQueue,
-    piece: &mut Vec<u8>,
+    piece: &mut [u8],
     wanted: Option<MessageKind>,
     most: u64,
 ) -> Taken
     requires decoder { decoder.old ≡ fresh }
     requires queue { queue.old ≡ [] }
-    requires piece { length piece.old.items ≡ 65536 }
+    requires piece { length piece.old ≡ 65536 }
     ensures came { Came wanted most (S.counts source.old) (S.counts source.new)
         (S.rest source.old) (S.rest source.new) result }
-    ensures piece { length piece.new.items ≡ 65536 }
+    ensures piece { length piece.new ≡ 65536 }
     ensures ready { IsReady (is_done result.answer) decoder.new queue.new }
 {
     let mut given: u128 = 0;

@@ -1,7 +1,6 @@
 -- What a decoder keeps of its present message, and what its steps answer.
 use Rattle.std.specs.Prelude.{⊤, ◌≡◌, ◌⊎◌, Bool, true, false, ℕ, ◌<◌, List, [], ◌++◌, length, Option, Some}
 use Rattle.std.specs.Option.{option_map}
-use Rattle.vortex_buffer.specs.Buffer.{Buffer}
 use Rattle.vortex_terms.specs.Term.{Term}
 use Rattle.vortex_flat.specs.Numbers.{little_endian}
 use Rattle.vortex_schema.specs.TypeAt.{IsTypeIn}

@@ -7,7 +7,7 @@ use Rattle.vortex_stream.specs.declared.error.IpcError.TheVariants as error
 use Rattle.vortex_ipc.specs.declared.message.DecoderMessage.{DecoderMessage}
 use Rattle.vortex_ipc.specs.declared.read_state.Taken.{Taken}
 use Rattle.vortex_ipc.specs.Decoder.{DecoderState, fresh}
-use Rattle.vortex_ipc.specs.Reader.{ReadsMessage, is_done}
+use Rattle.vortex_ipc.specs.Reader.{ReadsMessage}
 
 -- the answer to an end behind so many bytes
 abbrev pub at_end : ℕ → Option (Result DecoderMessage IpcError)

@@ -7,4 +7,4 @@ abbrev pub invariant-loop-made : goal.invariant-loop-made
 invariant-loop-made g l =
     let source = g.S.Source in
     Underway l.wanted (source.counts l.initial.source) (source.counts l.source) (source.rest l.initial.source) (source.rest l.source) l.decoder l.queue l.made l.given l.missing
-    × (length l.piece.items ≡ 65536)
+    × (length l.piece ≡ 65536)
