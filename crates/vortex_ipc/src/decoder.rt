@@ -20,7 +20,6 @@ use vortex_array::ArrayRegistry;
 use vortex_buffer::{Alignment, ByteBuffer};
 use vortex_dtype::{DType, DTypeView};
 use vortex_flat::u32_at;
-use vortex_names::DTypeError;
 use vortex_stream::{IpcError, MessageKind};
 
 /// A header that was taken, with its length before it.

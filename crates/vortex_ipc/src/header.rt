@@ -1,6 +1,6 @@
 //! Headers, read.
 
-ghost use Rattle.std.specs.Prelude.{◌≡◌, Some, None, length};
+ghost use Rattle.std.specs.Prelude.{◌≡◌, Some};
 ghost use Rattle.std.specs.Option.{option_map};
 ghost use Rattle.vortex_flat.specs.Answers.{Answers};
 ghost use Rattle.vortex_stream.specs.Header.{content_at, header_of, message_table_of, names_in};

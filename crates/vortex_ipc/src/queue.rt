@@ -1,6 +1,6 @@
 //! Bytes that wait to be read.
 
-ghost use Rattle.std.specs.Prelude.{◌≡◌, ◌+◌, ◌≤◌, [], ◌++◌, length, drop, slice_range, IfOk, IfErr, OnOk, OnErr, MatchResult};
+ghost use Rattle.std.specs.Prelude.{◌≡◌, ◌+◌, ◌≤◌, [], ◌++◌, length, drop, slice_range, IfOk, IfErr, OnOk, MatchResult};
 ghost use Rattle.vortex_ipc.specs.Queue.{HasLost};
 
 use std::alloc::Global;
