@@ -192,7 +192,8 @@ fn put(bytes: &mut Vec<u8>, words: &[u32]) -> Result<(), FlatError> {
 /// Structs of so many levels. Both fields of each lead to the one struct of the next level, and the last level is the
 /// type of nulls: in less than a thousand bytes stands a tree of `2^levels - 1` types.
 fn doubled(alloc: Global, levels: u32) -> Result<Vec<u8>, FlatError>
-    requires { levels ≤ 64 }
+    requires some { 0 < levels }
+    requires few { levels ≤ 64 }
 {
     let mut bytes = Vec::new(alloc);
     // The root is at 24; the vtable of each DType at 4, and that of each struct at 12.
