@@ -8,3 +8,4 @@ pub mod Steps
 pub mod BufLemmas
 pub mod States
 pub mod RunLemmas
+pub mod GoneLemmas
