@@ -5,9 +5,9 @@ use Rattle.vortex_stream.specs.declared.error.IpcError.TheVariants as error
 use Rattle.vortex_ipc.specs.declared.message.DecoderMessage.{DecoderMessage}
 use Rattle.vortex_ipc.specs.declared.message.PollRead.TheVariants as poll
 use Rattle.vortex_ipc.specs.Message.{message_of}
-use Rattle.vortex_ipc.specs.Decoding.{Decodes, found}
+use Rattle.vortex_ipc.specs.Decoding.{IsCut, Decodes, found}
 use Rattle.vortex_ipc.specs.Decoder.{DecoderState, fresh, FailsBy, ReadsNext}
-use Rattle.vortex_ipc.specs.Reader.{FailsOn, IsCut}
+use Rattle.vortex_ipc.specs.Reader.{FailsOn}
 
 -- a message
 pub buf_message : (d new : DecoderState) (q after : List ℕ) (m : DecoderMessage) → d ≡ fresh → ReadsNext None d q (Ok (poll.Some m)) new after → Decodes None q (found (message_of m) after)

@@ -11,3 +11,4 @@ pub mod Steps
 pub mod BufLemmas
 pub mod States
 pub mod RunLemmas
+pub mod GoneLemmas

@@ -14,8 +14,7 @@ use Rattle.vortex_stream.specs.declared.kind.MessageKind.{MessageKind}
 use Rattle.vortex_stream.specs.declared.error.IpcError.{IpcError}
 use Rattle.vortex_stream.specs.declared.error.IpcError.TheVariants as error
 use Rattle.vortex_ipc.specs.Message.{Message, StandsFor, buffer_message, type_message}
-use Rattle.vortex_ipc.specs.Decoding.{Outcome, more, refused, found, Decodes, BeginsWithLength, BeginsWithHeader, HasHeader, NeedsMore, IsFlawed, is_answered}
-use Rattle.vortex_ipc.specs.Reader.{IsCut}
+use Rattle.vortex_ipc.specs.Decoding.{IsCut, Outcome, more, refused, found, Decodes, BeginsWithLength, BeginsWithHeader, HasHeader, NeedsMore, IsFlawed, is_answered}
 use Rattle.vortex_ipc.specs.Cutting.{behind, IsSettled, IsLast, DecodesAll}
 use Rattle.vortex_ipc.proofs.Fronts.{begin_append, header_append, length_append, message_header, regroup, saying}
 

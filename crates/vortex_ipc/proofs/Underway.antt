@@ -14,9 +14,9 @@ use Rattle.vortex_ipc.specs.declared.message.DecoderMessage.{DecoderMessage}
 use Rattle.vortex_ipc.specs.declared.message.PollRead.TheVariants as poll
 use Rattle.vortex_ipc.specs.declared.read_state.Taken.{Taken}
 use Rattle.vortex_ipc.specs.Message.{Message, message_of}
-use Rattle.vortex_ipc.specs.Decoding.{NeedsMore, HasMessage}
+use Rattle.vortex_ipc.specs.Decoding.{IsCut, IsLeast, NeedsMore, HasMessage}
 use Rattle.vortex_ipc.specs.Decoder.{DecoderState, fresh, FailsBy, ReadsNext}
-use Rattle.vortex_ipc.specs.Reader.{AllGave, AnswersIn, FailsIn, IsCut}
+use Rattle.vortex_ipc.specs.Reader.{AllGave, AnswersIn, FailsIn}
 use Rattle.vortex_ipc.specs.inner.Came.{Came, at_end}
 use Rattle.vortex_ipc.specs.inner.Pieces.{TookPiece}
 use Rattle.vortex_ipc.proofs.Fronts.{exact}
@@ -98,10 +98,6 @@ pub some_missing : (wanted : Option MessageKind) (before now : SourceCounts) (re
 some_missing wanted before now rest left d q made given missing u = let lt = short wanted (d.begun ++ q) q u.size u.needs in omega (arith, lt, u.missing_is)
 
 -- ---- ends of the loop
-
--- each shorter front of the bytes is cut
-abbrev pub IsLeast : Option MessageKind → List ℕ → Type 0
-IsLeast wanted taken = (front back : List ℕ) → taken ≡ front ++ back → 0 < length back → IsCut wanted front
 
 cut_least : (wanted : Option MessageKind) (bytes there : List ℕ) (size : ℕ) → NeedsMore wanted bytes size there → IsLeast wanted bytes
 cut_least wanted bytes there size n front back e some = prefix_cut wanted bytes front back there size n e

@@ -6,7 +6,7 @@ use Rattle.vortex_stream.specs.declared.error.IpcError.TheVariants as error
 use Rattle.vortex_ipc.specs.declared.message.PollRead.{PollRead}
 use Rattle.vortex_ipc.specs.declared.message.PollRead.TheVariants as poll
 use Rattle.vortex_ipc.specs.Message.{message_of}
-use Rattle.vortex_ipc.specs.Decoding.{more, refused, found, Decodes}
+use Rattle.vortex_ipc.specs.Decoding.{more, refused, found, Decodes, IsLeast}
 use Rattle.vortex_ipc.specs.Queue.{HasLost}
 
 -- the bytes that it has taken of its present message, and whether an earlier call failed
@@ -18,12 +18,18 @@ pub record DecoderState : Type 0 where
 abbrev pub fresh : DecoderState
 fresh = record { begun = []; failed = false }
 
--- it was asked for a kind or for any with these bytes before it, and refused them so
+-- these bytes are gone, and with what was begun no more than the part that the last of them ends
+abbrev pub HasTaken : Option MessageKind → List ℕ → List ℕ → List ℕ → Type 0
+HasTaken wanted begun before after =
+    (gone : List ℕ) × (before ≡ gone ++ after) × IsLeast wanted (begun ++ gone)
+
+-- It was asked for a kind or for any with these bytes before it, and refused them so. It took no more
+-- than the part at which it failed.
 abbrev pub Refuses
     : Option MessageKind → DecoderState → List ℕ → IpcError → DecoderState → List ℕ → Type 0
 Refuses wanted old before e new after =
     (old.failed ≡ false) × Decodes wanted (old.begun ++ before) (refused e)
-    × (new.failed ≡ true) × HasLost before after
+    × (new.failed ≡ true) × HasTaken wanted old.begun before after
 
 -- It failed so: as an earlier call did, which leaves all as it was; for lack of memory; or by the
 -- first flaw of the message.

@@ -99,3 +99,12 @@ abbrev pub Decodes : Option MessageKind → List ℕ → Outcome → Type 0
 Decodes wanted bytes (more size there) = NeedsMore wanted bytes size there
 Decodes wanted bytes (refused error) = IsFlawed wanted bytes error
 Decodes wanted bytes (found message rest) = HasMessage wanted bytes message rest
+
+-- more bytes are needed after these
+abbrev pub IsCut : Option MessageKind → List ℕ → Type 0
+IsCut wanted bytes = (size : ℕ) × (there : List ℕ) × Decodes wanted bytes (more size there)
+
+-- each shorter front of the bytes is cut
+abbrev pub IsLeast : Option MessageKind → List ℕ → Type 0
+IsLeast wanted bytes =
+    (front back : List ℕ) → bytes ≡ front ++ back → 0 < length back → IsCut wanted front

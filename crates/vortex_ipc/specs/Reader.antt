@@ -1,5 +1,5 @@
 -- What the readers of messages do in one call.
-use Rattle.std.specs.Prelude.{⊤, ◌≡◌, ◌⊎◌, Bool, true, false, ℕ, ◌+◌, ◌-◌, ◌<◌, ◌≤◌, List, [], ◌++◌, length, Option, Some, None, Result, Ok, Err}
+use Rattle.std.specs.Prelude.{⊤, ◌≡◌, ◌⊎◌, Bool, true, false, ℕ, ◌+◌, ◌-◌, ◌<◌, ◌≤◌, List, [], length, Option, Some, None, Result, Ok, Err}
 use Rattle.std.specs.Io.KnownBytes.{Consumes, IsAtEnd}
 use Rattle.vortex_stream.specs.Counts.{raised_128, raised_by}
 use Rattle.vortex_stream.specs.declared.counts.SourceCounts.{SourceCounts}
@@ -8,11 +8,7 @@ use Rattle.vortex_stream.specs.declared.error.IpcError.{IpcError}
 use Rattle.vortex_stream.specs.declared.error.IpcError.TheVariants as error
 use Rattle.vortex_ipc.specs.declared.message.DecoderMessage.{DecoderMessage}
 use Rattle.vortex_ipc.specs.Message.{message_of}
-use Rattle.vortex_ipc.specs.Decoding.{more, refused, found, Decodes}
-
--- more bytes are needed after these
-abbrev pub IsCut : Option MessageKind → List ℕ → Type 0
-IsCut wanted bytes = (size : ℕ) × (there : List ℕ) × Decodes wanted bytes (more size there)
+use Rattle.vortex_ipc.specs.Decoding.{refused, found, Decodes, IsCut, IsLeast}
 
 -- ---- over bytes in hand
 
@@ -128,7 +124,7 @@ pub record ReadsMessage (wanted : Option MessageKind) (most : ℕ) (before after
   pub each_gives : call.reads ≤ call.given + call.ends + call.faults
   pub given_is : length taken ≡ call.given
   pub consumed : Consumes rest left taken
-  pub least : (front back : List ℕ) → taken ≡ front ++ back → 0 < length back → IsCut wanted front
+  pub least : IsLeast wanted taken
   pub answers : AnswersIn wanted most call taken left answer
 
 -- A reader that is done answers none and makes no read.

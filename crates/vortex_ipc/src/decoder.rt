@@ -8,7 +8,7 @@ ghost use Rattle.vortex_dtype.specs.DTypes.{term_of};
 ghost use Rattle.vortex_ipc.specs.Decoder.{ReadsNext, fresh};
 ghost use Rattle.vortex_ipc.specs.Decoding.{is_answered};
 ghost use Rattle.vortex_ipc.specs.Queue.{HasLost};
-ghost use Rattle.vortex_ipc.specs.inner.Begun.{Answered, HeadStandsFor, IsBegun, IsFar, IsTaken, NoHeaderBy, NoTypeBy, StopsBy, begun_bytes, has_failed, taken_bytes};
+ghost use Rattle.vortex_ipc.specs.inner.Begun.{Answered, Gone, GoneEarly, HeadStandsFor, IsBegun, IsFar, IsTaken, NoHeaderBy, NoTypeBy, StopsBy, begun_bytes, has_failed, taken_bytes};
 
 use crate::header::{Head, read_header};
 use crate::message::{DecoderMessage, PollRead};
@@ -122,7 +122,7 @@ impl MessageDecoder {
 }
 
 /// Takes what stands there of the present message, and answers.
-#[tactic(auto, using(crate::proofs::TakenLemmas::cut_header, crate::proofs::TakenLemmas::cut_length, crate::proofs::TakenLemmas::stops_early))]
+#[tactic(auto, using(crate::proofs::TakenLemmas::cut_header, crate::proofs::TakenLemmas::cut_length, crate::proofs::TakenLemmas::stops_early, crate::proofs::GoneLemmas::gone_early))]
 fn step(
     alloc: Global,
     begun: Begun,
@@ -135,7 +135,8 @@ fn step(
         Answered wanted (begun_bytes begun ++ bytes.old) p.0 p.1 bytes.new) }
     ensures begun { IfOk result (λ p. IsBegun p.0) }
     ensures stopped { IfErr result (λ e.
-        StopsBy wanted (begun_bytes begun ++ bytes.old) e × HasLost bytes.old bytes.new) }
+        StopsBy wanted (begun_bytes begun ++ bytes.old) e
+        × Gone wanted (begun_bytes begun) bytes.old e bytes.new) }
 {
     match take_front(alloc, begun, bytes) {
         Ok(Begun::Header(taken)) => take_body(alloc, taken, bytes, wanted),
@@ -150,7 +151,7 @@ fn step(
 }
 
 /// Takes the length and the header, as far as they stand there.
-#[tactic(auto, using(crate::proofs::QueueLemmas::lost_none, crate::proofs::QueueLemmas::lost_more))]
+#[tactic(auto, using(crate::proofs::QueueLemmas::lost_none, crate::proofs::QueueLemmas::lost_more, crate::proofs::GoneLemmas::early_memory))]
 fn take_front(alloc: Global, begun: Begun, bytes: &mut BytesQueue) -> Result<Begun, IpcError>
     requires begun { IsBegun begun }
     requires going { has_failed begun ≡ false }
@@ -160,7 +161,8 @@ fn take_front(alloc: Global, begun: Begun, bytes: &mut BytesQueue) -> Result<Beg
     ensures far { IfOk result (λ b. IsFar b bytes.new) }
     ensures lost { OnOk result (HasLost bytes.old bytes.new) }
     ensures stopped { IfErr result (λ e.
-        NoHeaderBy (begun_bytes begun ++ bytes.old) e × HasLost bytes.old bytes.new) }
+        NoHeaderBy (begun_bytes begun ++ bytes.old) e
+        × GoneEarly (begun_bytes begun) bytes.old e bytes.new) }
 {
     match begun {
         Begun::Nothing => {
@@ -191,7 +193,7 @@ fn header_size(prefix: &[u8]) -> usize
 }
 
 /// Takes the header behind its length, where it stands there.
-#[tactic(auto, using(crate::proofs::QueueLemmas::lost_none, crate::proofs::QueueLemmas::lost_taken, crate::proofs::TakenLemmas::none_taken, crate::proofs::TakenLemmas::is_taken, crate::proofs::TakenLemmas::taken_parts))]
+#[tactic(auto, using(crate::proofs::QueueLemmas::lost_none, crate::proofs::QueueLemmas::lost_taken, crate::proofs::TakenLemmas::none_taken, crate::proofs::GoneLemmas::gone_header, crate::proofs::GoneLemmas::early_memory, crate::proofs::TakenLemmas::is_taken, crate::proofs::TakenLemmas::taken_parts))]
 fn take_header(alloc: Global, prefix: ByteBuffer, bytes: &mut BytesQueue) -> Result<Begun, IpcError>
     requires { length prefix.bytes ≡ 4 }
     ensures begun { IfOk result (λ b. IsBegun b) }
@@ -199,7 +201,8 @@ fn take_header(alloc: Global, prefix: ByteBuffer, bytes: &mut BytesQueue) -> Res
     ensures far { IfOk result (λ b. IsFar b bytes.new) }
     ensures lost { OnOk result (HasLost bytes.old bytes.new) }
     ensures stopped { IfErr result (λ e.
-        NoHeaderBy (prefix.bytes ++ bytes.old) e × HasLost bytes.old bytes.new) }
+        NoHeaderBy (prefix.bytes ++ bytes.old) e
+        × GoneEarly prefix.bytes bytes.old e bytes.new) }
 {
     let size = header_size(prefix.as_slice());
     if bytes.len() < size {
@@ -232,7 +235,7 @@ fn is_answered(wanted: Option<MessageKind>, kind: MessageKind) -> bool
 }
 
 /// Takes the body behind a header, where it stands there and the message is answered.
-#[tactic(auto, using(crate::proofs::TakenLemmas::other_kind, crate::proofs::TakenLemmas::cut_body, crate::proofs::TakenLemmas::has_message, crate::proofs::TakenLemmas::stops_by_type, crate::proofs::QueueLemmas::lost_none, crate::proofs::QueueLemmas::lost_taken))]
+#[tactic(auto, using(crate::proofs::TakenLemmas::other_kind, crate::proofs::TakenLemmas::cut_body, crate::proofs::TakenLemmas::has_message, crate::proofs::TakenLemmas::stops_by_type, crate::proofs::GoneLemmas::gone_memory, crate::proofs::GoneLemmas::gone_body, crate::proofs::QueueLemmas::lost_none, crate::proofs::QueueLemmas::lost_taken))]
 fn take_body(
     alloc: Global,
     taken: TakenHeader,
@@ -244,7 +247,8 @@ fn take_body(
         Answered wanted (taken_bytes taken ++ bytes.old) p.0 p.1 bytes.new) }
     ensures begun { IfOk result (λ p. IsBegun p.0) }
     ensures stopped { IfErr result (λ e.
-        StopsBy wanted (taken_bytes taken ++ bytes.old) e × HasLost bytes.old bytes.new) }
+        StopsBy wanted (taken_bytes taken ++ bytes.old) e
+        × Gone wanted (taken_bytes taken) bytes.old e bytes.new) }
 {
     let head = taken.head;
     if !is_answered(wanted, head.content.kind) {

@@ -17,7 +17,7 @@ use Rattle.vortex_ipc.specs.declared.message.DecoderMessage.{DecoderMessage}
 use Rattle.vortex_ipc.specs.declared.message.PollRead.{PollRead}
 use Rattle.vortex_ipc.specs.declared.message.PollRead.TheVariants as poll
 use Rattle.vortex_ipc.specs.Message.{StandsFor, message_of}
-use Rattle.vortex_ipc.specs.Decoding.{HasNoHeader, HasMessage, IsFlawed, NeedsMore}
+use Rattle.vortex_ipc.specs.Decoding.{HasNoHeader, HasMessage, IsFlawed, IsLeast, NeedsMore}
 use Rattle.vortex_ipc.specs.inner.Heads.{content_head, head_of}
 
 -- the bytes of a header and of the length before it
@@ -84,3 +84,16 @@ NoTypeBy head body e =
 abbrev pub HeadStandsFor : ContentHead → List ℕ → DecoderMessage → Type 0
 HeadStandsFor head body message =
     (content : Content) → content_head content ≡ head → StandsFor content body (message_of message)
+
+-- what is gone after a step that stopped so: for lack of memory anything, and else no more than the
+-- part at which it stopped
+abbrev pub Gone : Option MessageKind → List ℕ → List ℕ → IpcError → List ℕ → Type 0
+Gone wanted begun before e after =
+    (gone : List ℕ) × (before ≡ gone ++ after)
+    × ((e ≡ error.OutOfMemory) ⊎ IsLeast wanted (begun ++ gone))
+
+-- the same, whatever kind is asked for
+abbrev pub GoneEarly : List ℕ → List ℕ → IpcError → List ℕ → Type 0
+GoneEarly begun before e after =
+    (gone : List ℕ) × (before ≡ gone ++ after)
+    × ((e ≡ error.OutOfMemory) ⊎ ((wanted : Option MessageKind) → IsLeast wanted (begun ++ gone)))
