@@ -17,7 +17,7 @@ use Rattle.vortex_ipc.specs.declared.header.Head.{Head}
 use Rattle.vortex_ipc.specs.declared.message.DecoderMessage.{DecoderMessage}
 use Rattle.vortex_ipc.specs.Message.{StandsFor, message_of, buffer_message, type_message}
 use Rattle.vortex_ipc.specs.declared.message.DecoderMessage.TheVariants as messages
-use Rattle.vortex_dtype.specs.declared.dtype.DType.{DType}
+use Rattle.vortex_types.specs.declared.dtype.DType.{DType}
 use Rattle.vortex_dtype.specs.DTypes.{term_of}
 use Rattle.vortex_ipc.specs.Decoding.{BeginsWithLength, HasHeader, HasNoHeader, HasNoType, HasMessage, NeedsMore, IsFlawed, is_answered}
 use Rattle.vortex_ipc.specs.inner.Heads.{content_head, head_of}
