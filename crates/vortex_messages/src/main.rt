@@ -38,13 +38,15 @@ fn list<S: Source + Drop, W: Write>(
         Ok(reader) => reader,
         Err(error) => return Ok(Some(error)),
     };
-    loop {
+    // Each message takes a read, and there are no more of these.
+    for _ in 0..u64::MAX {
         match reader.next(alloc) {
             None => return Ok(None),
             Some(Ok(message)) => line(out, &message)?,
             Some(Err(error)) => return Ok(Some(error)),
         }
     }
+    Ok(Some(IpcError::ReadLimit))
 }
 
 fn main(rt: HostRuntime) -> ExitCode {
