@@ -2,10 +2,13 @@ use std::alloc::Global;
 use std::test::Fail;
 use vortex_array::ArrayRegistry;
 use vortex_buffer::ByteBuffer;
-use vortex_ipc::{BufMessageReader, DecoderMessage, EncoderMessage, IpcError, MessageEncoder};
+use vortex_ipc::{
+    BufMessageReader, BytesQueue, DecoderMessage, EncoderMessage, IpcError, MessageDecoder,
+    MessageEncoder, PollRead,
+};
 
-/// The bytes of a message of a buffer, and where its body begins in them.
-fn message(alloc: Global, body: &[u8]) -> Result<(Vec<u8>, usize), IpcError> {
+/// The bytes of a message of a buffer.
+fn message(alloc: Global, body: &[u8]) -> Result<Vec<u8>, IpcError> {
     let Ok(buffer) = ByteBuffer::from_slice(alloc, body) else {
         return Err(IpcError::OutOfMemory);
     };
@@ -14,41 +17,77 @@ fn message(alloc: Global, body: &[u8]) -> Result<(Vec<u8>, usize), IpcError> {
     for piece in &pieces {
         bytes.extend_from_slice(piece.as_slice())?;
     }
-    let place = bytes.len().saturating_sub(body.len());
-    Ok((bytes, place))
+    Ok(bytes)
 }
 
-/// Whether the message is a buffer whose bytes lie in `whole` from `place` on.
-fn lies_in(message: &DecoderMessage, whole: &ByteBuffer, place: usize) -> bool {
+/// Whether no other buffer shares the bytes of a message of a buffer.
+fn is_alone(message: &DecoderMessage) -> Option<bool> {
     match message {
-        DecoderMessage::Buffer(body) => match whole.as_slice().get(place..) {
-            Some(rest) => body.as_slice().as_ptr() == rest.as_ptr(),
-            None => false,
-        },
-        DecoderMessage::DType(_) => false,
+        DecoderMessage::Buffer(body) => Some(body.inner().is_unique()),
+        DecoderMessage::DType(_) => None,
     }
 }
 
-/// Whether the body of the first of two messages lies in the buffer that a reader was given.
-fn body_is_shared(alloc: Global, body: &[u8]) -> Result<bool, IpcError> {
-    let (bytes, place) = message(alloc, body)?;
-    let Ok(whole) = ByteBuffer::from_vec(alloc, bytes) else {
-        return Err(IpcError::OutOfMemory);
-    };
+/// The first message of a buffer. The reader is gone then.
+fn first_of(alloc: Global, whole: &ByteBuffer) -> Result<DecoderMessage, IpcError> {
     let Ok(given) = whole.try_clone(alloc) else {
         return Err(IpcError::OutOfMemory);
     };
     let mut reader = BufMessageReader::new(alloc, given, ArrayRegistry::canonical_only())?;
-    match reader.next(alloc) {
-        Some(Ok(message)) => Ok(lies_in(&message, &whole, place)),
-        Some(Err(error)) => Err(error),
-        None => Ok(false),
-    }
+    reader.next(alloc).unwrap_or(Err(IpcError::UnexpectedEnd))
+}
+
+/// Whether a body is alone while the buffer that it was read from is there, and when that is gone.
+fn alone_in_a_buffer(alloc: Global, body: &[u8]) -> Result<[Option<bool>; 2], IpcError> {
+    let Ok(whole) = ByteBuffer::from_vec(alloc, message(alloc, body)?) else {
+        return Err(IpcError::OutOfMemory);
+    };
+    let first = first_of(alloc, &whole)?;
+    let beside = is_alone(&first);
+    drop(whole);
+    Ok([beside, is_alone(&first)])
 }
 
 #[test]
-fn a_body_lies_in_the_buffer(rt: HostRuntime) -> Result<(), Fail> {
-    assert_eq!(rt; body_is_shared(rt.alloc(), &[1, 2, 3]), Ok(true));
-    assert_eq!(rt; body_is_shared(rt.alloc(), &[7; 4096]), Ok(true));
+fn a_body_is_shared_with_the_buffer(rt: HostRuntime) -> Result<(), Fail> {
+    let shared = Ok([Some(false), Some(true)]);
+    assert_eq!(rt; alone_in_a_buffer(rt.alloc(), &[1, 2, 3]), shared);
+    assert_eq!(rt; alone_in_a_buffer(rt.alloc(), &[7; 4096]), shared);
+    Ok(())
+}
+
+/// Two messages that came to a queue, and stand in one piece there. The queue is gone then.
+fn two_of(alloc: Global, body: &[u8]) -> Result<(PollRead, PollRead), IpcError> {
+    let bytes = message(alloc, body)?;
+    let mut queue = BytesQueue::new(alloc)?;
+    queue.push(alloc, &bytes)?;
+    queue.push(alloc, &bytes)?;
+    let mut decoder = MessageDecoder::new(ArrayRegistry::canonical_only());
+    let first = decoder.read_next(alloc, &mut queue)?;
+    let second = decoder.read_next(alloc, &mut queue)?;
+    Ok((first, second))
+}
+
+/// Whether no other buffer shares the bytes of what was read.
+fn read_alone(read: &PollRead) -> Option<bool> {
+    match read {
+        PollRead::Some(message) => is_alone(message),
+        PollRead::NeedMore(_) => None,
+    }
+}
+
+/// Whether a body is alone while that of a message of the same piece is there, and when that is gone.
+fn alone_in_a_queue(alloc: Global, body: &[u8]) -> Result<[Option<bool>; 2], IpcError> {
+    let (first, second) = two_of(alloc, body)?;
+    let beside = read_alone(&first);
+    drop(second);
+    Ok([beside, read_alone(&first)])
+}
+
+#[test]
+fn bodies_of_one_piece_are_shared(rt: HostRuntime) -> Result<(), Fail> {
+    let shared = Ok([Some(false), Some(true)]);
+    assert_eq!(rt; alone_in_a_queue(rt.alloc(), &[1, 2, 3]), shared);
+    assert_eq!(rt; alone_in_a_queue(rt.alloc(), &[7; 4096]), shared);
     Ok(())
 }
