@@ -9,10 +9,12 @@ arrived and 8 MiB for the program itself. Then a message in pieces of one byte, 
 grows as the size does. Ends with status 1 where one does not hold. Outside the gate.
 """
 import argparse
+import multiprocessing
 import os
 import struct
 import subprocess
 import sys
+import tempfile
 import time
 
 sys.dont_write_bytecode = True
@@ -31,16 +33,19 @@ def header(size):
     return struct.pack("<I", len(head)) + head
 
 
-def run(program, data):
+def write(path, front, size):
+    """Writes a stream. In a process of its own, whose memory does not count."""
+    with open(path, "wb") as stream:
+        stream.write(front + bytes(size))
+
+
+def run(program, path):
     """The status and the peak of memory of one run."""
-    child = subprocess.Popen(["/usr/bin/env", program], stdin=subprocess.PIPE, stdout=subprocess.DEVNULL, stderr=subprocess.DEVNULL)
-    try:
-        child.stdin.write(data)
-        child.stdin.close()
-    except BrokenPipeError:
-        pass
-    _, status, usage = os.wait4(child.pid, 0)
-    return os.waitstatus_to_exitcode(status), usage.ru_maxrss * 1024
+    with open(path, "rb") as source:
+        child = subprocess.Popen([program], stdin=source, stdout=subprocess.DEVNULL, stderr=subprocess.DEVNULL)
+        _, status, usage = os.wait4(child.pid, 0)
+    child.returncode = os.waitstatus_to_exitcode(status)
+    return child.returncode, usage.ru_maxrss * 1024
 
 
 def main():
@@ -50,16 +55,21 @@ def main():
     words.add_argument("--asked", default=os.path.join(TOP, "crates/vortex_conformance/out/vortex_conformance"))
     given = words.parse_args()
     bad = False
-    body = bytes(given.size)
-    for name, data, wanted in [
-        ("good", header(given.size) + body, 0),
-        ("header of 2^32 - 1", struct.pack("<I", 2**32 - 1) + body, UNEXPECTED_END),
-        ("body of 2^63", header(2**63) + body, UNEXPECTED_END),
+    for name, front, wanted in [
+        ("good", header(given.size), 0),
+        ("header of 2^32 - 1", struct.pack("<I", 2**32 - 1), UNEXPECTED_END),
+        ("body of 2^63", header(2**63), UNEXPECTED_END),
     ]:
-        status, peak = run(given.program, data)
-        holds = status == wanted and peak <= 2 * len(data) + PROGRAM_ITSELF
+        with tempfile.TemporaryDirectory() as folder:
+            path = os.path.join(folder, "stream")
+            writer = multiprocessing.Process(target=write, args=(path, front, given.size))
+            writer.start()
+            writer.join()
+            status, peak = run(given.program, path)
+        came = len(front) + given.size
+        holds = status == wanted and peak <= 2 * came + PROGRAM_ITSELF
         bad |= not holds
-        print(f"{name}: status {status}, {peak / len(data):.2f} bytes of memory a byte{'' if holds else ': NOT AS IT SHOULD BE'}")
+        print(f"{name}: status {status}, {peak / came:.2f} bytes of memory a byte{'' if holds else ': NOT AS IT SHOULD BE'}")
     times = []
     for size in (1 << 18, 1 << 19, 1 << 20):
         question = b"messages 1 " + (header(size) + bytes(size)).hex().encode() + b"\n"
