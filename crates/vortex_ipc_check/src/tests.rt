@@ -4,8 +4,17 @@ use vortex_array::ArrayRegistry;
 use vortex_buffer::ByteBuffer;
 use vortex_ipc::{
     BufMessageReader, BytesQueue, DecoderMessage, EncoderMessage, IpcError, MessageDecoder,
-    MessageEncoder, PollRead,
+    MessageEncoder, PollRead, SyncMessageReader, VecSource,
 };
+
+/// The length and the header of a buffer message whose body is told to have 2^63 bytes.
+const LONG_BODY: [u8; 68] = [
+    0x40, 0x00, 0x00, 0x00, 0x18, 0x00, 0x00, 0x00, 0x00, 0x00, 0x00, 0x00, 0x0c, 0x00, 0x16, 0x00,
+    0x14, 0x00, 0x15, 0x00, 0x10, 0x00, 0x08, 0x00, 0x00, 0x00, 0x00, 0x00, 0x10, 0x00, 0x00, 0x00,
+    0x00, 0x00, 0x00, 0x00, 0x00, 0x00, 0x00, 0x00, 0x00, 0x00, 0x00, 0x80, 0x10, 0x00, 0x00, 0x00,
+    0x00, 0x02, 0x00, 0x00, 0x06, 0x00, 0x05, 0x00, 0x04, 0x00, 0x00, 0x00, 0x08, 0x00, 0x00, 0x00,
+    0x00, 0x00, 0x00, 0x00,
+];
 
 /// The bytes of a message of a buffer.
 fn message(alloc: Global, body: &[u8]) -> Result<Vec<u8>, IpcError> {
@@ -89,5 +98,26 @@ fn bodies_of_one_piece_are_shared(rt: HostRuntime) -> Result<(), Fail> {
     let shared = Ok([Some(false), Some(true)]);
     assert_eq!(rt; alone_in_a_queue(rt.alloc(), &[1, 2, 3]), shared);
     assert_eq!(rt; alone_in_a_queue(rt.alloc(), &[7; 4096]), shared);
+    Ok(())
+}
+
+/// The number of the error with which the first message is refused that stands behind these bytes, with
+/// others and an end behind them.
+fn refusal_of(alloc: Global, front: &[u8]) -> Result<Option<u8>, IpcError> {
+    let mut bytes = Vec::from_slice(alloc, front)?;
+    bytes.extend_from_slice(&[0; 1000])?;
+    let source = VecSource::new(bytes, Vec::new(alloc), Vec::new(alloc));
+    let mut reader = SyncMessageReader::new(alloc, source, ArrayRegistry::canonical_only())?;
+    match reader.next(alloc) {
+        Some(Err(error)) => Ok(Some(error.number())),
+        _ => Ok(None),
+    }
+}
+
+#[test]
+fn a_length_that_lies_is_an_unexpected_end(rt: HostRuntime) -> Result<(), Fail> {
+    let end = Ok(Some(IpcError::UnexpectedEnd.number()));
+    assert_eq!(rt; refusal_of(rt.alloc(), &[255; 4]), end);
+    assert_eq!(rt; refusal_of(rt.alloc(), &LONG_BODY), end);
     Ok(())
 }
