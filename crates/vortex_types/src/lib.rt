@@ -27,6 +27,7 @@ pub use element::Element;
 pub use extension::ExtDType;
 pub use field_dtype::FieldDType;
 pub use reading::{check_type, read_type};
+pub use shape::{FieldsRef, Shape};
 pub use struct_fields::StructFields;
 pub use struct_fields_iter::StructFieldsIter;
 pub use type_ref::TypeRef;

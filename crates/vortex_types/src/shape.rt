@@ -11,15 +11,16 @@ use crate::type_ref::{RefKind, TypeRef};
 use vortex_names::{DecimalDType, Nullability};
 use vortex_number::PType;
 
-/// A reference to the fields of a struct.
+/// A reference to the fields of a struct, wherever they stand. It takes no memory. Contracts see the fields by
+/// `fields_term`.
 #[derive(Clone, Copy)]
-pub(crate) enum FieldsRef<'a> {
+pub enum FieldsRef<'a> {
     Owned(&'a StructFields),
 }
 
 impl<'a> FieldsRef<'a> {
     /// How many fields there are.
-    pub(crate) fn len(self) -> usize
+    pub fn len(self) -> usize
         ensures { result ≡ field_count (fields_term self.entry) }
     {
         match self {
@@ -28,7 +29,7 @@ impl<'a> FieldsRef<'a> {
     }
 
     /// The name of the field at an index.
-    pub(crate) fn name(self, i: usize) -> Option<&'a str>
+    pub fn name(self, i: usize) -> Option<&'a str>
         ensures { option_copied result ≡ slice_get (names_of (fields_term self.entry)) i }
     {
         match self {
@@ -40,7 +41,7 @@ impl<'a> FieldsRef<'a> {
     }
 
     /// The type of the field at an index.
-    pub(crate) fn part(self, i: usize) -> Option<TypeRef<'a>>
+    pub fn part(self, i: usize) -> Option<TypeRef<'a>>
         ensures { option_map ref_term result ≡ field_at (fields_term self.entry) i }
     {
         match self {
@@ -52,9 +53,9 @@ impl<'a> FieldsRef<'a> {
     }
 }
 
-/// A type taken apart.
+/// A type taken apart, its parts being references. It takes no memory. Contracts see the type by `shape_term`.
 #[derive(Clone, Copy)]
-pub(crate) enum Shape<'a> {
+pub enum Shape<'a> {
     Null,
     Bool(Nullability),
     Primitive(PType, Nullability),
@@ -69,7 +70,7 @@ pub(crate) enum Shape<'a> {
 
 impl<'a> TypeRef<'a> {
     /// The type taken apart.
-    pub(crate) fn shape(self) -> Shape<'a>
+    pub fn shape(self) -> Shape<'a>
         ensures { shape_term result ≡ ref_term self.entry }
     {
         match self.kind {

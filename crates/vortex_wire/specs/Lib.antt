@@ -3,3 +3,4 @@ pub mod Varint
 pub mod Field
 pub mod Message
 pub mod Metadata
+pub mod Inside

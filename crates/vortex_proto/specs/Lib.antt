@@ -1,0 +1,3 @@
+pub mod TypeMessage
+pub mod TypeBytes
+pub mod PathMessage

@@ -1,0 +1,4 @@
+pub mod RowOf
+pub mod ScalarTerm
+pub mod Compare
+pub mod HashInput
