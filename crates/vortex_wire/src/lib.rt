@@ -3,6 +3,7 @@
 
 mod error;
 mod field;
+mod inside;
 mod message;
 mod metadata;
 mod schema;
