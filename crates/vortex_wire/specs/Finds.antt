@@ -1,6 +1,8 @@
 -- What the answer of a reader says of what stands in the bytes: `Finds`, `FindsInMemory`.
 use Rattle.std.specs.Prelude.{◌≡◌, ◌⊎◌, ℕ, List, [], ◌∷◌, Option, Some, None, Result, Ok, Err, map, option_map}
+use Rattle.std.specs.Prelude.{if◌then◌else◌}
 use Rattle.std.specs.Borrow.{Bor}
+use Rattle.std.specs.Str.{is_utf8}
 use Rattle.vortex_wire.specs.declared.error.WireError.{WireError}
 use Rattle.vortex_wire.specs.declared.error.WireError.TheVariants.{Malformed, OutOfMemory}
 
@@ -27,3 +29,7 @@ abbrev pub then_bytes : Result (Option (Bor (List ℕ))) WireError → Option (L
 then_bytes (Ok None) others = Some []
 then_bytes (Ok (Some x)) others = option_map (λ xs. x.now ∷ xs) others
 then_bytes (Err e) others = None
+
+-- the bytes as a text, which is UTF-8
+abbrev pub text_in : List ℕ → Option (List ℕ)
+text_in bytes = if is_utf8 bytes then Some bytes else None
