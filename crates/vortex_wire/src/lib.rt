@@ -3,6 +3,7 @@
 
 mod error;
 mod field;
+mod inside;
 mod message;
 mod metadata;
 mod schema;
@@ -10,6 +11,9 @@ mod varint;
 
 pub use error::WireError;
 pub use field::{Fields, WireField, WireValue, put_bytes};
+pub use inside::{
+    bytes_fields, flag, message_field, optional_bytes, singular_i32, singular_text, text_of, texts,
+};
 pub use message::{only_field, put_varint_field, singular_u32, singular_varint};
 pub use metadata::{DecimalMetadata, DictMetadata, ListMetadata};
 pub use schema::metadata_schema;
