@@ -5,3 +5,4 @@ pub mod Singular
 pub mod Records
 pub mod Only
 pub mod Headers
+pub mod Pieces
