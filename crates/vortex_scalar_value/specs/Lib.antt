@@ -6,3 +6,5 @@ pub mod Kinds
 pub mod Falls
 pub mod ValueMessage
 pub mod ValueBytes
+pub mod Reading
+pub mod Standing

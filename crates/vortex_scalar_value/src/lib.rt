@@ -2,11 +2,13 @@
 #![tactic(auto)]
 
 mod error;
+mod laws;
 mod scalar_value;
 mod schema;
 mod value_ref;
 
 pub use error::ScalarError;
+pub use laws::{found_values_stand, one_value_stands};
 pub use scalar_value::ScalarValue;
 pub use schema::value_schema;
 pub use value_ref::ValueRef;

@@ -1,0 +1,3 @@
+mod Options
+pub mod Found
+pub mod Standing
