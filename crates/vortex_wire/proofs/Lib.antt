@@ -5,3 +5,5 @@ pub mod Singular
 pub mod Records
 pub mod Only
 pub mod BytesFound
+pub mod Options
+pub mod Bytes
