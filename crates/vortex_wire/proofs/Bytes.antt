@@ -1,5 +1,5 @@
 -- What is found in bytes is bytes.
-use Rattle.std.proofs.Common.{◌≡◌, ℕ, zero, suc, ◌+◌, ◌-◌, ◌*◌, ◌/◌, ◌%◌, ◌^◌, ◌<◌, Bool, true, false, ltb, eqb, List, [], ◌∷◌, length, take, drop, Option, Some, None, refl, sym, ap, subst, ◌∙◌, inl, inr, arith}
+use Rattle.std.proofs.Common.{◌≡◌, ℕ, zero, suc, ◌+◌, ◌-◌, ◌*◌, ◌/◌, ◌%◌, ◌^◌, ◌<◌, Bool, ltb, eqb, List, [], ◌∷◌, length, take, drop, Option, Some, None, ap, subst, ◌∙◌, inl, inr}
 use Rattle.std.specs.Prelude.{filter, IfSome}
 use Rattle.std.specs.List.{All, last_or}
 use Rattle.std.specs.Int.{w32, w64, from_le_bytes}

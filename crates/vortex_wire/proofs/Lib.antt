@@ -7,3 +7,4 @@ pub mod Only
 pub mod BytesFound
 pub mod Options
 pub mod Bytes
+pub mod TextLaws
