@@ -1,6 +1,6 @@
 -- What the reader finds is a message of the type, is legal and nests no deeper than it may.
-use Rattle.std.proofs.Common.{◌≡◌, ℕ, zero, suc, ◌+◌, ◌≤◌, Bool, true, false, cond, eqb, List, [], ◌∷◌, length, Option, Some, None, ℤ, pos, refl, sym, ap, subst, ◌∙◌, arith}
-use Rattle.std.specs.Prelude.{option_and_then, IsSome, is_some}
+use Rattle.std.proofs.Common.{◌≡◌, ℕ, zero, suc, ◌≤◌, true, cond, eqb, List, [], ◌∷◌, length, Option, Some, None, refl, sym, ap, subst, ◌∙◌, arith}
+use Rattle.std.specs.Prelude.{IsSome}
 use Rattle.std.specs.List.{list_all}
 use Rattle.std.specs.Str.{is_utf8}
 use Rattle.std.proofs.lemmas.Bool.{eqb-true}
@@ -12,7 +12,7 @@ use Rattle.vortex_wire.specs.Inside.{bytes_in, bytes_fields, texts, singular_tex
 use Rattle.vortex_wire.proofs.Options.{bound, guarded, refused, chosen, is_same}
 use Rattle.vortex_wire.proofs.Bytes.{AreBytes, AllBytes, fields_are_bytes, message_is_bytes, optional_is_bytes, only_field_bytes}
 use Rattle.vortex_wire.proofs.TextLaws.{both, texts_are_texts, singular_is_text, u32_below}
-use Rattle.vortex_terms.specs.Term.{WholeKind, unsigned_8, unsigned_16, unsigned_32, unsigned_64, signed_8, signed_16, signed_32, signed_64, Term, null, boolean, primitive, decimal, utf8, binary, structure, list, extension, fixed_size_list, Fields, no_fields, field}
+use Rattle.vortex_terms.specs.Term.{WholeKind, unsigned_8, unsigned_16, unsigned_32, unsigned_64, signed_8, signed_16, signed_32, signed_64, Term, null, boolean, primitive, decimal, utf8, binary, structure, list, extension, fixed_size_list, Fields}
 use Rattle.vortex_terms.specs.TermCode.{kind_number}
 use Rattle.vortex_terms.specs.Tests.{is_decimal}
 use Rattle.vortex_terms.specs.TestLaws.{is_decimal-Decides}

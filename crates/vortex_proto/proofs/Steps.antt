@@ -1,5 +1,5 @@
 -- The names of steps, as a loop over them finds them.
-use Rattle.std.proofs.Common.{◌≡◌, ℕ, suc, ◌+◌, ◌<◌, List, [], ◌∷◌, ◌++◌, get_or, drop, length, Option, Some, None, option_map, refl, sym, ap, ◌∙◌, add-one, append-nil}
+use Rattle.std.proofs.Common.{◌≡◌, ℕ, ◌+◌, ◌<◌, List, [], ◌∷◌, ◌++◌, get_or, drop, length, Option, Some, None, option_map, refl, sym, ap, ◌∙◌, add-one, append-nil}
 use Rattle.std.specs.Borrow.{Bor}
 use Rattle.std.proofs.Math.Seq.{drop-cons}
 use Rattle.vortex_prelude.specs.Chain.{◌>>=◌}

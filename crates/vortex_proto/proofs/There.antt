@@ -1,5 +1,5 @@
 -- The reader finds the type of a message where it is legal and nests no deeper than it may.
-use Rattle.std.proofs.Common.{◌≡◌, ℕ, zero, suc, ◌+◌, ◌-◌, ◌≤◌, Bool, true, false, eqb, List, [], ◌∷◌, length, Option, Some, None, ℤ, refl, sym, ap, ◌∙◌, arith}
+use Rattle.std.proofs.Common.{◌≡◌, ℕ, zero, suc, ◌-◌, ◌≤◌, Bool, true, false, eqb, List, [], ◌∷◌, length, Option, Some, None, ℤ, refl, sym, ap, ◌∙◌, arith}
 use Rattle.std.specs.Prelude.{IsSome}
 use Rattle.std.proofs.lemmas.Bool.{eq-eqb}
 use Rattle.vortex_prelude.specs.Chain.{◌>>=◌}
@@ -11,7 +11,7 @@ use Rattle.vortex_terms.specs.TermCode.{kind_number}
 use Rattle.vortex_terms.specs.Tests.{is_decimal}
 use Rattle.vortex_terms.specs.TestLaws.{is_decimal-Decides}
 use Rattle.vortex_terms.specs.FieldLaws.{fields_from-parts, length-names_of, length-types_of}
-use Rattle.vortex_terms.specs.Types.{Legal, LegalFields, levels, fields_levels, names_of, types_of, fields_from, is_extension}
+use Rattle.vortex_terms.specs.Types.{Legal, LegalFields, levels, fields_levels, names_of, types_of, is_extension}
 use Rattle.vortex_proto.specs.declared.schema.TheConstants.{PLAIN_NULLABLE, PRIMITIVE_PTYPE, PRIMITIVE_NULLABLE, DECIMAL_PRECISION, DECIMAL_SCALE, DECIMAL_NULLABLE, STRUCT_NAMES, STRUCT_DTYPES, STRUCT_NULLABLE, LIST_ELEMENT, LIST_NULLABLE, EXTENSION_ID, EXTENSION_STORAGE, EXTENSION_METADATA, FIXED_ELEMENT, FIXED_SIZE, FIXED_NULLABLE}
 use Rattle.vortex_proto.specs.TypeMessage.{kind_and_body, IsTypeMessage, AreTypeMessages}
 use Rattle.vortex_proto.specs.Reading.{Node, null_node, boolean_node, primitive_node, decimal_node, utf8_node, binary_node, structure_node, list_node, extension_node, fixed_size_list_node, ptype_from, null_in, boolean_in, primitive_in, decimal_in, utf8_in, binary_in, structure_in, list_in, extension_in, fixed_size_list_in, body_in, node_in, types_in, structure_of, list_of, extension_of, fixed_size_list_of, term_in, type_in}
