@@ -4,9 +4,10 @@
 mod laws;
 mod node;
 mod path;
-mod schema;
+pub mod schema;
+mod written;
 
 pub use laws::{one_type_is_told, types_are_found};
 pub use node::TypeMessage;
 pub use path::path_names;
-pub use schema::message_schema;
+pub use written::{small_types_are_written, written_types_stand};

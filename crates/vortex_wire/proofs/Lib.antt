@@ -8,3 +8,5 @@ pub mod BytesFound
 pub mod Options
 pub mod Bytes
 pub mod TextLaws
+pub mod Headers
+pub mod Pieces
