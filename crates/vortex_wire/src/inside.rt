@@ -1,7 +1,8 @@
 //! What the fields of a message hold inside.
 
-ghost use Rattle.std.specs.Prelude.{◌≡◌, ◌<◌, length, IfErr, IfOk, IfSome, Some};
+ghost use Rattle.std.specs.Prelude.{◌≡◌, ◌<◌, length, IfErr, IfOk, IfSome, Some, is_some};
 ghost use Rattle.std.specs.Option.{ok_or, option_copied};
+ghost use Rattle.vortex_wire.specs.Field.{fields_of};
 ghost use Rattle.vortex_wire.specs.Finds.{Finds, FindsInMemory, all_bytes_of, bytes_of, text_in, then_bytes};
 ghost use Rattle.vortex_wire.specs.Inside.{bytes_fields, flag, message, optional_bytes};
 ghost use Rattle.vortex_wire.specs.Inside.{singular_i32, singular_text, texts};
@@ -146,4 +147,17 @@ pub fn singular_i32(b: &[u8], number: u32) -> Result<i32, WireError>
 {
     let found = singular_u32(b, number)?;
     Ok(found.cast_signed())
+}
+
+/// Whether the bytes are a message: fields, one after another.
+pub fn is_message(b: &[u8]) -> bool
+    ensures { result ≡ is_some (fields_of b.now) }
+{
+    let mut fields = Fields::new(b);
+    while let Some(field) = fields.next_field() {
+        if field.is_err() {
+            return false;
+        }
+    }
+    true
 }
