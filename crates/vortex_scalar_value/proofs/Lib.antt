@@ -1,3 +1,5 @@
-mod Options
 pub mod Found
+pub mod Listed
+mod Options
+pub mod Read
 pub mod Standing

@@ -3,6 +3,7 @@
 
 mod error;
 mod laws;
+mod reading;
 mod scalar_value;
 mod schema;
 mod value_ref;
