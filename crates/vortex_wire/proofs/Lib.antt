@@ -4,3 +4,5 @@ pub mod FieldLaws
 pub mod Singular
 pub mod Records
 pub mod Only
+pub mod Headers
+pub mod Pieces
