@@ -24,11 +24,11 @@ IsReadValue (Ok v) b = IsBoundedMessage b v
 IsReadValue (Err e) b =
     (e ≡ error.OutOfMemory) ⊎ ((e ≡ error.Malformed) × ((v : ValueTerm) → IsBoundedMessage b v → ⊥))
 
--- the answer is the message of the value; it is TooLarge exactly where the value has too many
--- levels, unless memory ran out
-abbrev pub IsWrittenValue : Result (List ℕ) ScalarError → ValueTerm → Type 0
-IsWrittenValue (Ok b) v = (b ≡ value_bytes v) × (value_levels v ≤ most_levels)
-IsWrittenValue (Err e) v =
+-- the answer, seen by view, is the message of the value; it is TooLarge exactly where the value has
+-- too many levels, unless memory ran out
+abbrev pub IsWrittenValue : {X : Type 0} → (X → List ℕ) → Result X ScalarError → ValueTerm → Type 0
+IsWrittenValue view (Ok x) v = (view x ≡ value_bytes v) × (value_levels v ≤ most_levels)
+IsWrittenValue view (Err e) v =
     ((e ≡ error.OutOfMemory) × (value_levels v ≤ most_levels)) ⊎ ((e ≡ error.TooLarge) × (most_levels < value_levels v))
 
 -- the answer, seen by view, is what is found; it is Malformed where nothing is, unless memory ran out
