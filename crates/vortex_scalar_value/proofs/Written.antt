@@ -168,3 +168,28 @@ mutual
   all_levels_read : (vs : ValueTerms) → values_levels (all_as_read vs) ≡ values_levels vs
   all_levels_read no_values = refl
   all_levels_read (value v vs) = λ i. max (levels_read v i) (all_levels_read vs i)
+
+-- what is read is written as the same bytes
+whole_again : (k : WholeKind) (z : ℤ) → value_bytes (as_read (whole_value k z)) ≡ value_bytes (whole_value k z)
+whole_again unsigned_8 z = refl
+whole_again unsigned_16 z = refl
+whole_again unsigned_32 z = refl
+whole_again unsigned_64 z = refl
+whole_again signed_8 z = refl
+whole_again signed_16 z = refl
+whole_again signed_32 z = refl
+whole_again signed_64 z = refl
+
+mutual
+  pub written_again : (v : ValueTerm) → value_bytes (as_read v) ≡ value_bytes v
+  written_again null_value = refl
+  written_again (truth_value t) = refl
+  written_again (whole_value k z) = whole_again k z
+  written_again (decimal_value w z) = refl
+  written_again (bytes_value bs) = refl
+  written_again (text_value bs) = refl
+  written_again (list_value vs) = ap (bytes_field LIST) (all_written_again vs)
+
+  all_written_again : (vs : ValueTerms) → values_bytes (all_as_read vs) ≡ values_bytes vs
+  all_written_again no_values = refl
+  all_written_again (value v vs) = λ i. bytes_field LIST_VALUES (written_again v i) ++ all_written_again vs i

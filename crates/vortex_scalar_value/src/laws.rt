@@ -20,9 +20,11 @@ pub fn one_value_stands()
     ensures { (v w : ValueTerm) (b : List ℕ) → IsValueMessage b v → IsValueMessage b w → v ≡ w }
 {}
 
-/// What is written for a value is a message of what is read from it, which nests as deep.
+/// What is written for a value is a message of what is read from it, which nests as deep and is
+/// written as the same bytes.
 pub fn written_values_stand()
     ensures stands { (v : ValueTerm) → IsHeld v → length (value_bytes v) < 2 ^ 64
         → IsValueMessage (value_bytes v) (as_read v) }
     ensures levels { (v : ValueTerm) → value_levels (as_read v) ≡ value_levels v }
+    ensures again { (v : ValueTerm) → value_bytes (as_read v) ≡ value_bytes v }
 {}

@@ -14,3 +14,6 @@ pub use laws::{found_values_stand, one_value_stands, written_values_stand};
 pub use scalar_value::ScalarValue;
 pub use schema::value_schema;
 pub use value_ref::ValueRef;
+
+#[cfg(test)]
+mod tests;
