@@ -28,8 +28,10 @@ impl ScalarValue {
     pub fn to_protobytes(&self, alloc: Global) -> Result<Vec<u8>, ScalarError>
         ensures written { IsWrittenValue (λ v. v.items) result self.now }
 
-        // What is read of it is the value, but for the widths of numbers.
+        // What is read of it is the value, but for the widths of numbers, and bytes in place of a
+        // decimal.
         ensures read { IfOk result (λ v. IsValueMessage v.items (as_read self.now)) }
+        ensures held { IfOk result (λ _. IsHeld self.now) }
     {
         if !nests_within(self, MOST_LEVELS) {
             return Err(ScalarError::TooLarge);
@@ -167,6 +169,7 @@ fn zigzag(n: i64) -> u64
 fn put_decimal(out: Backward, decimal: DecimalValue) -> Result<Backward, ScalarError>
     ensures written { let value = decimal_value (width_of decimal) (decimal_number decimal) in
         IfOk result (λ b. b ≡ value_bytes value ++ out) }
+    ensures held { IsHeld (decimal_value (width_of decimal) (decimal_number decimal)) }
     ensures memory { IsOkUnless result ScalarError.OutOfMemory }
 {
     match decimal {
