@@ -1,9 +1,8 @@
 -- The value of a message is found, and so there is one at most.
-use Rattle.std.proofs.Common.{◌≡◌, ℕ, zero, suc, ◌≤◌, max, List, [], ◌∷◌, Option, Some, None, pos, refl, ap, arith, ◌∙◌}
+use Rattle.std.proofs.Common.{◌≡◌, ℕ, zero, suc, ◌≤◌, max, List, [], ◌∷◌, Option, Some, None, refl, ap, arith}
 use Rattle.std.specs.Str.{IsUtf8}
 use Rattle.std.proofs.lemmas.Str.{is_utf8-from_IsUtf8}
 use Rattle.vortex_wire.specs.Field.{Content, Varint, Bytes}
-use Rattle.vortex_wire.specs.Message.{truth}
 use Rattle.vortex_wire.specs.Inside.{bytes_fields}
 use Rattle.vortex_terms.specs.Term.{unsigned_64, signed_64}
 use Rattle.vortex_scalar_value.specs.Value.{ValueTerm, null_value, truth_value, whole_value, decimal_value, bytes_value, text_value, list_value, ValueTerms, no_values, value, value_levels, values_levels}

@@ -7,4 +7,5 @@ pub mod Falls
 pub mod ValueMessage
 pub mod ValueBytes
 pub mod Reading
+pub mod Held
 pub mod Standing
