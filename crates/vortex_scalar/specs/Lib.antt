@@ -1,4 +1,5 @@
 pub mod RowOf
+pub mod RowLaws
 pub mod ScalarTerm
 pub mod Compare
 pub mod HashInput

@@ -2,7 +2,10 @@
 #![tactic(auto)]
 
 mod fit;
+mod hash;
 mod inside;
 mod leaf;
+mod order;
+mod row_ref;
 
 pub use vortex_scalar_value::{ScalarError, ScalarValue, ValueRef};
