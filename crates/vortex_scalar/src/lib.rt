@@ -1,6 +1,12 @@
 //! Scalars: a type and a value that fits it.
 #![tactic(auto)]
 
+mod fit;
+mod hash;
+mod inside;
+mod leaf;
+mod order;
+mod row_ref;
 mod schema;
 
 pub use schema::scalar_schema;

@@ -1,0 +1,5 @@
+pub mod Insides
+pub mod Leaves
+pub mod Walks
+pub mod Ordered
+pub mod Fed
