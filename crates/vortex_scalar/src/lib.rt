@@ -1,4 +1,7 @@
 //! Scalars: a type and a value that fits it.
 #![tactic(auto)]
 
+mod scalar;
+
+pub use scalar::Scalar;
 pub use vortex_scalar_value::{ScalarError, ScalarValue, ValueRef};
