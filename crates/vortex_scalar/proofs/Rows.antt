@@ -1,6 +1,9 @@
 -- Values that have a row, and rows that fit.
-use Rattle.std.proofs.Common.{◌≡◌, ℤ, Bool, true, false, Option, Some, None, refl, ap, subst}
+use Rattle.std.proofs.Common.{◌≡◌, ℕ, ℤ, List, IsUtf8, Err, Bool, true, false, Option, Some, None, refl, ap, subst, ◌∙◌}
 use Rattle.std.specs.Option.{IsSome, is_some, option_map, option_and_then}
+use Rattle.std.specs.Str.{is_utf8}
+use Rattle.std.proofs.lemmas.Str.{IsUtf8-from_is_utf8}
+use Rattle.vortex_scalar_value.specs.declared.error.ScalarError.TheVariants as error
 use Rattle.std.specs.Prelude.{if◌then◌else◌, unwrap_or}
 use Rattle.vortex_terms.specs.Term.{Term, null, boolean, primitive, decimal, utf8, binary, structure, list, extension, fixed_size_list}
 use Rattle.vortex_terms.specs.Row.{Row, Rows, null_row, whole_row, list_row, is_null}
@@ -10,7 +13,7 @@ use Rattle.vortex_terms.specs.TestLaws.{is_fitting-Decides}
 use Rattle.vortex_scalar_value.specs.Value.{ValueTerm, null_value, truth_value, whole_value, decimal_value, bytes_value, text_value, list_value, is_null_value}
 use Rattle.vortex_scalar.specs.RowOf.{row_of, fitting_row, number_of_bytes, field_rows, rows_by}
 use Rattle.vortex_scalar.specs.ScalarTerm.{ScalarTerm}
-use Rattle.vortex_scalar.specs.Made.{scalar_of}
+use Rattle.vortex_scalar.specs.Made.{typed, scalar_of, text_scalar}
 
 -- a row that fits is the fitting row
 pub fitting : (t : Term) (v : ValueTerm) (r : Row) → row_of t v ≡ Some r → Fits t r → fitting_row t v ≡ Some r
@@ -86,3 +89,38 @@ null_agrees _ _ = tt
 -- a row is null exactly where the value is
 pub null_same : (t : Term) (v : ValueTerm) (s : ScalarTerm) → IsSome (fitting_row t v) → scalar_of t v ≡ s → is_null s.row ≡ is_null_value v
 null_same t v s h e = subst (agrees (is_null_value v)) (row_is t v s h e) (subst (λ (z : ScalarTerm). agrees (is_null_value v) (row_of z.dtype v)) e (null_agrees t v))
+
+-- what a known value makes
+pub fits_as : (t : Term) (v w : ValueTerm) (r : Row) → v ≡ w → row_of t w ≡ Some r → Fits t r → IsSome (fitting_row t v)
+fits_as t v w r e row h = is_made t v r (ap (row_of t) e ∙ row) h
+
+pub made_as : (t : Term) (v w : ValueTerm) (r : Row) (s : ScalarTerm) → v ≡ w → row_of t w ≡ Some r → Fits t r → s ≡ scalar_of t v → s ≡ typed t r
+made_as t v w r s e row h made = made ∙ makes t v r (ap (row_of t) e ∙ row) h
+
+-- null under a nullable type
+pub null_row_of : (t : Term) → row_of t null_value ≡ Some null_row
+null_row_of null = refl
+null_row_of (boolean n) = refl
+null_row_of (primitive k n) = refl
+null_row_of (decimal p s n) = refl
+null_row_of (utf8 n) = refl
+null_row_of (binary n) = refl
+null_row_of (structure fs n) = refl
+null_row_of (list t n) = refl
+null_row_of (extension id t m) = null_row_of t
+null_row_of (fixed_size_list t k n) = refl
+
+-- bytes that are no text
+pub no_text : (n : Bool) (bs : List ℕ) → (IsUtf8 bs → ⊥) → text_scalar n bs ≡ Err error.WrongType
+no_text n bs never = rw (by (is_utf8 bs) (λ e. never (IsUtf8-from_is_utf8 bs e))) refl
+  where
+    by : (b : Bool) → (b ≡ true → ⊥) → b ≡ false
+    by true h = absurd (h refl)
+    by false h = refl
+
+-- what a known type makes
+pub fits_at : (t u : Term) (v : ValueTerm) (r : Row) → t ≡ u → row_of u v ≡ Some r → Fits u r → IsSome (fitting_row t v)
+fits_at t u v r e here fits = ap (λ s. is_some (fitting_row s v)) e ∙ is_made u v r here fits
+
+pub made_at : (t u : Term) (v : ValueTerm) (r : Row) (s : ScalarTerm) → t ≡ u → row_of u v ≡ Some r → Fits u r → s ≡ scalar_of t v → s ≡ typed u r
+made_at t u v r s e here fits made = made ∙ ap (λ w. scalar_of w v) e ∙ makes u v r here fits

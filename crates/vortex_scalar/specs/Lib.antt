@@ -1,5 +1,7 @@
 pub mod RowOf
 pub mod ScalarTerm
+pub mod Answers
+pub mod Made
 pub mod Compare
 pub mod HashInput
-pub mod Made
+pub mod inner

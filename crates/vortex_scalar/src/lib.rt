@@ -1,6 +1,8 @@
 //! Scalars: a type and a value that fits it.
 #![tactic(auto)]
 
+mod build;
+mod nested;
 mod scalar;
 
 pub use scalar::Scalar;

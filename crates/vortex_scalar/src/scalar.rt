@@ -38,6 +38,14 @@ impl Model for Scalar {
 }
 
 impl Scalar {
+    /// The scalar of a type and a value that fits it.
+    pub fn new(dtype: DType, value: ScalarValue) -> Scalar
+        requires { IsSome (fitting_row (term_of dtype) value) }
+        ensures { result ≡ scalar_of (term_of dtype) value }
+    {
+        Scalar { dtype, value }
+    }
+
     /// The type.
     pub fn dtype(&self) -> &DType
         ensures { term_of result.now ≡ self.now.dtype }
@@ -108,12 +116,4 @@ impl Scalar {
     {
         self.dtype.law();
     }
-}
-
-/// The scalar of a type and a value that fits it.
-pub(crate) fn made(dtype: DType, value: ScalarValue) -> Scalar
-    requires { IsSome (fitting_row (term_of dtype) value) }
-    ensures { result ≡ scalar_of (term_of dtype) value }
-{
-    Scalar { dtype, value }
 }
