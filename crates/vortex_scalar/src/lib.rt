@@ -2,6 +2,9 @@
 #![tactic(auto)]
 
 mod build;
+mod fit;
+mod inside;
+mod leaf;
 mod nested;
 mod scalar;
 

@@ -7,8 +7,9 @@ ghost use Rattle.vortex_terms.specs.Row.{is_null};
 ghost use Rattle.vortex_terms.specs.Fits.{Fits};
 ghost use Rattle.vortex_types.specs.DTypes.{term_of};
 ghost use Rattle.vortex_scalar.specs.RowOf.{row_of, fitting_row};
-ghost use Rattle.vortex_scalar.specs.Made.{scalar_of};
+ghost use Rattle.vortex_scalar.specs.Made.{scalar_of, IsScalarOf};
 
+use crate::fit::fits;
 use std::alloc::Global;
 use std::marker::Model;
 use vortex_scalar_value::{ScalarError, ScalarValue};
@@ -44,6 +45,17 @@ impl Scalar {
         ensures { result ≡ scalar_of (term_of dtype) value }
     {
         Scalar { dtype, value }
+    }
+
+    /// The scalar of a type and a value, where it fits the type.
+    pub fn try_new(dtype: DType, value: ScalarValue) -> Result<Scalar, ScalarError>
+        ensures { IsScalarOf (term_of dtype) value result }
+    {
+        if fits(dtype.type_ref(), &value) {
+            Ok(Scalar::new(dtype, value))
+        } else {
+            Err(ScalarError::DoesNotFit)
+        }
     }
 
     /// The type.

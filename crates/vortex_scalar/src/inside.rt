@@ -1,0 +1,48 @@
+//! The types of the values inside a list or a struct.
+
+ghost use Rattle.std.specs.Prelude.{◌≡◌, ◌<◌, length, slice_get, Some};
+ghost use Rattle.std.specs.Option.{option_map};
+ghost use Rattle.vortex_types.specs.TypeRefs.{ref_term};
+ghost use Rattle.vortex_scalar.specs.inner.Inside.{inside_term, in_at, in_takes};
+
+use vortex_scalar_value::ScalarValue;
+use vortex_types::{FieldsRef, TypeRef};
+
+/// The types of the values inside a list or a struct. It takes no memory.
+#[derive(Clone, Copy)]
+pub(crate) enum Inside<'a> {
+    /// One type for every value.
+    Every(TypeRef<'a>),
+    /// A type for each field.
+    Fields(FieldsRef<'a>),
+}
+
+impl<'a> Inside<'a> {
+    /// Whether there may be so many values.
+    pub(crate) fn takes(self, n: usize) -> bool
+        ensures { result ≡ in_takes (inside_term self.entry) n }
+    {
+        match self {
+            Inside::Every(_) => true,
+            Inside::Fields(fields) => fields.len() == n,
+        }
+    }
+
+    /// The type of the value at an index.
+    pub(crate) fn part(self, i: usize) -> Option<TypeRef<'a>>
+        ensures { option_map ref_term result ≡ in_at (inside_term self.entry) i }
+    {
+        match self {
+            Inside::Every(of) => Some(of),
+            Inside::Fields(fields) => fields.part(i),
+        }
+    }
+}
+
+/// The value at an index.
+pub(crate) fn value_at<'a>(values: &'a [ScalarValue], i: usize) -> &'a ScalarValue
+    requires { i < length values.now }
+    ensures { slice_get values.now i ≡ Some result.now }
+{
+    &values[i]
+}
