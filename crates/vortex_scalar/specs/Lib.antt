@@ -5,3 +5,4 @@ pub mod Made
 pub mod Compare
 pub mod HashInput
 pub mod inner
+pub mod EqualLaws
