@@ -8,6 +8,8 @@ mod inside;
 mod leaf;
 mod nested;
 mod scalar;
+mod scalar_type;
 
 pub use scalar::Scalar;
+pub use scalar_type::ScalarType;
 pub use vortex_scalar_value::{ScalarError, ScalarValue, ValueRef};
