@@ -6,3 +6,4 @@ pub mod Compare
 pub mod HashInput
 pub mod inner
 pub mod EqualLaws
+pub mod Views

@@ -9,7 +9,9 @@ mod leaf;
 mod nested;
 mod scalar;
 mod scalar_type;
+mod views;
 
 pub use scalar::Scalar;
 pub use scalar_type::ScalarType;
+pub use views::BoolScalar;
 pub use vortex_scalar_value::{ScalarError, ScalarValue, ValueRef};
