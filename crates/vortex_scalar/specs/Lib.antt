@@ -1,7 +1,11 @@
 pub mod RowOf
 pub mod RowLaws
 pub mod ScalarTerm
+pub mod Answers
+pub mod Made
 pub mod Compare
 pub mod HashInput
 pub mod ScalarMessage
 pub mod inner
+pub mod EqualLaws
+pub mod Views
