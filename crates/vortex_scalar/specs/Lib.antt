@@ -4,4 +4,6 @@ pub mod Answers
 pub mod Made
 pub mod Compare
 pub mod HashInput
+pub mod ViewRows
+pub mod Views
 pub mod inner

@@ -7,6 +7,8 @@ mod inside;
 mod leaf;
 mod nested;
 mod scalar;
+mod views;
 
 pub use scalar::Scalar;
+pub use views::{BoolScalar, DecimalScalar, PrimitiveScalar};
 pub use vortex_scalar_value::{ScalarError, ScalarValue, ValueRef};

@@ -1,0 +1,10 @@
+//! Views of scalars, by kinds of types.
+
+mod bool;
+mod decimal;
+mod kinds;
+mod primitive;
+
+pub use self::bool::BoolScalar;
+pub use self::decimal::DecimalScalar;
+pub use self::primitive::PrimitiveScalar;
