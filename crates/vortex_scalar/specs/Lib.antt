@@ -7,3 +7,4 @@ pub mod HashInput
 pub mod ViewRows
 pub mod Views
 pub mod inner
+pub mod EqualLaws

@@ -3,6 +3,7 @@
 
 mod build;
 mod fit;
+mod impls;
 mod inside;
 mod leaf;
 mod nested;
