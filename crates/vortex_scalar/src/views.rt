@@ -1,8 +1,10 @@
 //! Views of scalars, by kinds of types.
 
 mod bool;
+mod compare;
 mod decimal;
 mod kinds;
+mod numbers;
 mod primitive;
 
 pub use self::bool::BoolScalar;

@@ -74,6 +74,13 @@ impl<'a> DecimalScalar<'a> {
         self.value
     }
 
+    /// The number without the point, if it is not null.
+    pub(super) fn number(&self) -> Option<i128>
+        ensures { or_null whole_row result ≡ (decimal_term self.now).row }
+    {
+        self.value.map(|value| value.as_i128())
+    }
+
     /// The scalar of this type and this row.
     pub fn into_scalar(self) -> Scalar
         ensures { result ≡ decimal_term self.entry }

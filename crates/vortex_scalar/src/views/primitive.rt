@@ -92,6 +92,13 @@ impl<'a> PrimitiveScalar<'a> {
         self.pvalue
     }
 
+    /// The number, if it is not null.
+    pub(super) fn number(&self) -> Option<i128>
+        ensures { or_null whole_row result ≡ (primitive_term self.now).row }
+    {
+        self.pvalue.map(|value| value.as_i128())
+    }
+
     /// The number as the native type of the type's kind, if it is not null.
     pub fn typed_value<T: NativePType>(&self) -> Option<T>
         requires { whole_kind_of (primitive_term self.now).dtype ≡ Some (whole_kind T.PTYPE) }
