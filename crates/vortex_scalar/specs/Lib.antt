@@ -6,5 +6,6 @@ pub mod Compare
 pub mod HashInput
 pub mod ViewRows
 pub mod Views
+pub mod BoolLaws
 pub mod inner
 pub mod EqualLaws

@@ -6,6 +6,7 @@ mod decimal;
 mod kinds;
 mod numbers;
 mod primitive;
+mod truths;
 
 pub use self::bool::BoolScalar;
 pub use self::decimal::DecimalScalar;

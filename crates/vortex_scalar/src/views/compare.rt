@@ -3,16 +3,69 @@
 ghost use Rattle.std.specs.Ordering.{on};
 ghost use Rattle.std.specs.Cmp.{partial_equiv_from_equiv, on_equiv, on_po};
 ghost use Rattle.std.specs.Hash.{on_Alike};
+ghost use Rattle.vortex_terms.specs.Order.{row_cmp};
 ghost use Rattle.vortex_scalar.specs.Compare.{scalar_eq, scalar_cmp};
+ghost use Rattle.vortex_scalar.specs.BoolLaws.{bool_row, bool_total, bools_compare, bools_equal};
 ghost use Rattle.vortex_scalar.specs.HashInput.{scalar_writes};
 ghost use Rattle.vortex_scalar.specs.EqualLaws.{scalar_equivalence, scalar_order, scalar_alike};
-ghost use Rattle.vortex_scalar.specs.Views.{primitive_term, decimal_term};
+ghost use Rattle.vortex_scalar.specs.Views.{bool_term, primitive_term, decimal_term};
 
+use super::bool::BoolScalar;
 use super::decimal::DecimalScalar;
 use super::numbers::{compare_numbers, equal_numbers, hash_number};
 use super::primitive::PrimitiveScalar;
+use super::truths::{compare_truths, hash_truth};
 use std::cmp::Ordering;
 use std::hash::{Hash, Hasher};
+
+impl<'a> PartialEq for BoolScalar<'a> {
+    ghost eq = { on bool_term scalar_eq };
+
+    ghost laws = { partial_equiv_from_equiv (on_equiv bool_term scalar_equivalence) };
+
+    fn eq(&self, other: &BoolScalar<'a>) -> bool {
+        self.cmp(other).is_eq()
+    }
+}
+
+impl<'a> Eq for BoolScalar<'a> {
+    ghost laws = { on_equiv bool_term scalar_equivalence };
+}
+
+impl<'a> PartialOrd for BoolScalar<'a> {
+    ghost partial_cmp = { on bool_term scalar_cmp };
+
+    ghost laws = { on_po bool_term scalar_order };
+
+    fn partial_cmp(&self, other: &BoolScalar<'a>) -> Option<Ordering> {
+        Some(self.cmp(other))
+    }
+}
+
+impl<'a> Ord for BoolScalar<'a> {
+    ghost cmp = { on bool_row row_cmp };
+
+    ghost total = { bool_total };
+
+    ghost matches_partial_cmp = { bools_compare };
+
+    ghost matches_eq = { bools_equal };
+
+    fn cmp(&self, other: &BoolScalar<'a>) -> Ordering {
+        compare_truths(self.value(), other.value())
+    }
+}
+
+impl<'a> Hash for BoolScalar<'a> {
+    ghost hash_input = { λ s. scalar_writes (bool_term s) };
+
+    ghost respects_eq = { (on_Alike bool_term scalar_alike).fed };
+
+    fn hash<H: Hasher>(&self, state: &mut H) {
+        self.dtype().type_ref().kind().hash(state);
+        hash_truth(self.value(), state);
+    }
+}
 
 impl<'a> PartialEq for PrimitiveScalar<'a> {
     ghost eq = { on primitive_term scalar_eq };
