@@ -6,6 +6,8 @@ pub mod Made
 pub mod Compare
 pub mod HashInput
 pub mod ScalarMessage
+pub mod ViewRows
+pub mod Views
+pub mod BoolLaws
 pub mod inner
 pub mod EqualLaws
-pub mod Views

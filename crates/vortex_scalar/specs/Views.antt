@@ -1,29 +1,23 @@
--- What views of scalars tell.
---     of_type                 the scalar, where its type is of a kind
---     truth_or_null           the row of a truth value that may be missing
---     truth_of                the truth value that a value is
---     inverted                the row of the other truth value
-use Rattle.std.specs.Prelude.{Bool, not, Option, Some, None, if◌then◌else◌}
-use Rattle.vortex_terms.specs.Term.{Term}
-use Rattle.vortex_terms.specs.Row.{Row, null_row, truth_row}
-use Rattle.vortex_scalar_value.specs.Value.{ValueTerm, truth_value}
+-- What a contract sees of a view: its type and its row.
+use Rattle.vortex_terms.specs.Row.{truth_row, whole_row}
+use Rattle.vortex_types.specs.DTypes.{term_of}
+use Rattle.vortex_value.specs.PValue.{number_of}
+use Rattle.vortex_value.specs.DecimalValue.{decimal_number}
+use Rattle.vortex_scalar.specs.declared.views.bool.BoolScalar.{BoolScalar}
+use Rattle.vortex_scalar.specs.declared.views.primitive.PrimitiveScalar.{PrimitiveScalar}
+use Rattle.vortex_scalar.specs.declared.views.decimal.DecimalScalar.{DecimalScalar}
 use Rattle.vortex_scalar.specs.ScalarTerm.{ScalarTerm}
+use Rattle.vortex_scalar.specs.Made.{typed}
+use Rattle.vortex_scalar.specs.ViewRows.{or_null}
 
--- the scalar, where its type is of this kind
-abbrev pub of_type : (Term → Bool) → ScalarTerm → Option ScalarTerm
-of_type is_kind s = if is_kind s.dtype then Some s else None
+-- the type and the row of a view of truth values
+abbrev pub bool_term : BoolScalar → ScalarTerm
+bool_term s = typed (term_of s.dtype.now) (or_null truth_row s.value)
 
--- the truth value that a value is, where it is one
-abbrev pub truth_of : ValueTerm → Option Bool
-truth_of (truth_value b) = Some b
-truth_of _ = None
+-- of a view of whole numbers
+abbrev pub primitive_term : PrimitiveScalar → ScalarTerm
+primitive_term s = typed (term_of s.dtype.now) (or_null (λ v. whole_row (number_of v)) s.pvalue)
 
--- a truth value that may be missing, as a row
-abbrev pub truth_or_null : Option Bool → Row
-truth_or_null None = null_row
-truth_or_null (Some b) = truth_row b
-
--- the other truth value; null stays
-abbrev pub inverted : Row → Row
-inverted (truth_row b) = truth_row (not b)
-inverted r = r
+-- of a view of decimals
+abbrev pub decimal_term : DecimalScalar → ScalarTerm
+decimal_term s = typed (term_of s.dtype.now) (or_null (λ v. whole_row (decimal_number v)) s.value)

@@ -1,5 +1,13 @@
-//! Views of scalars: a type of one kind, and what the value holds.
+//! Views of scalars, by kinds of types.
 
-mod bool_scalar;
+mod bool;
+mod compare;
+mod decimal;
+mod kinds;
+mod numbers;
+mod primitive;
+mod truths;
 
-pub use bool_scalar::BoolScalar;
+pub use self::bool::BoolScalar;
+pub use self::decimal::DecimalScalar;
+pub use self::primitive::PrimitiveScalar;
