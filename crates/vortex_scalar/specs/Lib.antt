@@ -4,4 +4,5 @@ pub mod Answers
 pub mod Made
 pub mod Compare
 pub mod HashInput
+pub mod LargeViews
 pub mod inner

@@ -4,6 +4,8 @@
 mod build;
 mod nested;
 mod scalar;
+mod views;
 
 pub use scalar::Scalar;
+pub use views::ListScalar;
 pub use vortex_scalar_value::{ScalarError, ScalarValue, ValueRef};
