@@ -9,5 +9,6 @@ pub mod ScalarMessage
 pub mod ViewRows
 pub mod Views
 pub mod BoolLaws
+pub mod LargeViews
 pub mod inner
 pub mod EqualLaws

@@ -18,5 +18,5 @@ mod views;
 pub use scalar::Scalar;
 pub use scalar_type::ScalarType;
 pub use schema::scalar_schema;
-pub use views::{BoolScalar, DecimalScalar, PrimitiveScalar};
+pub use views::{BoolScalar, DecimalScalar, ListScalar, PrimitiveScalar};
 pub use vortex_scalar_value::{ScalarError, ScalarValue, ValueRef};
