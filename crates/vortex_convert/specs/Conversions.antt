@@ -2,14 +2,18 @@
 -- row holds, none for null.
 --     whole_in, any_whole_in      a number of a kind, and of any kind
 --     truth_in, text_in, bytes_in, decimal_in, rows_in      what else a scalar may hold
+--     unit_in                     null
 --     not_null                    the same, null being refused
 --     as_length                   a number as a length, one below 0 being refused
---     Answers                     an answer that took memory
-use Rattle.std.specs.Prelude.{◌≡◌, ◌⊎◌, ℕ, ℤ, pos, negsuc, Bool, List, map, Option, Some, None, Result, Ok, Err, if◌then◌else◌}
+--     Tells                       an answer that took no memory
+--     width_precision             the precision of a decimal of a width
+use Rattle.std.specs.Prelude.{◌≡◌, ℕ, ℤ, pos, negsuc, Bool, List, map, Option, Some, None, Result, Ok, Err, if◌then◌else◌}
 use Rattle.std.specs.Option.{option_map}
 use Rattle.vortex_terms.specs.Term.{WholeKind, Term, boolean, primitive, decimal, utf8, binary, list, fixed_size_list}
 use Rattle.vortex_terms.specs.Equality.{kind_eq}
-use Rattle.vortex_terms.specs.Row.{Row, truth_row, whole_row, bytes_row, list_row, row_list}
+use Rattle.vortex_terms.specs.Row.{Row, is_null, truth_row, whole_row, bytes_row, list_row, row_list}
+use Rattle.vortex_value.specs.declared.decimal.DecimalValueType.{DecimalValueType}
+use Rattle.vortex_value.specs.declared.decimal.DecimalValueType.TheVariants as width
 use Rattle.vortex_scalar_value.specs.declared.error.ScalarError.{ScalarError}
 use Rattle.vortex_scalar_value.specs.declared.error.ScalarError.TheVariants as error
 use Rattle.vortex_scalar.specs.ScalarTerm.{ScalarTerm}
@@ -104,7 +108,19 @@ as_length (Ok (Some (negsuc n))) = Err error.OutOfRange
 as_length (Ok None) = Ok None
 as_length (Err e) = Err e
 
--- the answer, seen by view, is the wanted one, unless memory ran out
-abbrev pub Answers : {X Y : Type 0} → (X → Y) → Result X ScalarError → Result Y ScalarError → Type 0
-Answers view (Ok x) wanted = wanted ≡ Ok (view x)
-Answers view (Err e) wanted = (e ≡ error.OutOfMemory) ⊎ (wanted ≡ Err e)
+-- null, of whatever type
+abbrev pub unit_in : ScalarTerm → Result (Unit {0}) ScalarError
+unit_in s = if is_null s.row then Ok tt else Err error.WrongType
+
+-- the answer, seen by view, is the wanted one
+abbrev pub Tells : {X Y : Type 0} → (X → Y) → Result X ScalarError → Result Y ScalarError → Type 0
+Tells view (Ok x) wanted = wanted ≡ Ok (view x)
+Tells view (Err e) wanted = wanted ≡ Err e
+
+-- the precision under which a decimal of this width is made
+abbrev pub width_precision : DecimalValueType → ℕ
+width_precision width.I8 = 3
+width_precision width.I16 = 5
+width_precision width.I32 = 10
+width_precision width.I64 = 19
+width_precision width.I128 = 38
