@@ -4,7 +4,8 @@ ghost use Rattle.std.specs.Prelude.{◌≡◌, ◌<◌, ◌≤◌, ◌^◌, ◌+
 ghost use Rattle.std.specs.Prelude.{IfOk, IsOkUnless};
 ghost use Rattle.vortex_wire.specs.Varint.{varint};
 ghost use Rattle.vortex_wire.specs.Field.{bytes_field, varint_field};
-ghost use Rattle.vortex_wire.specs.Inside.{headed};
+ghost use Rattle.vortex_wire.specs.Message.{singular_field};
+ghost use Rattle.vortex_wire.specs.Inside.{headed, flag_field, signed_field, text_field};
 
 use crate::error::WireError;
 use crate::field::put_bytes;
@@ -102,6 +103,56 @@ impl Backward {
         let len = reversed.len();
         put_bytes(&mut reversed, number, bytes)?;
         Ok(turned(reversed, len))
+    }
+
+    /// A singular number before what is written: 0 is left out.
+    pub fn with_singular_field(self, number: u32, v: u64) -> Result<Backward, WireError>
+        requires some { 0 < number }
+        requires most { number < 2 ^ 29 }
+        ensures written { IfOk result (λ b. b ≡ singular_field number v ++ self) }
+        ensures memory { IsOkUnless result WireError.OutOfMemory }
+    {
+        if v == 0 {
+            return Ok(self);
+        }
+        self.with_varint_field(number, v)
+    }
+
+    /// A singular signed number before what is written, as its 64 bits: 0 is left out.
+    pub fn with_signed_field(self, number: u32, v: i64) -> Result<Backward, WireError>
+        requires some { 0 < number }
+        requires most { number < 2 ^ 29 }
+        ensures written { IfOk result (λ b. b ≡ signed_field number v ++ self) }
+        ensures memory { IsOkUnless result WireError.OutOfMemory }
+    {
+        self.with_singular_field(number, v.cast_unsigned())
+    }
+
+    /// A flag before what is written: one that is not set is left out.
+    pub fn with_flag_field(self, number: u32, is_set: bool) -> Result<Backward, WireError>
+        requires some { 0 < number }
+        requires most { number < 2 ^ 29 }
+        ensures written { IfOk result (λ b. b ≡ flag_field number is_set ++ self) }
+        ensures memory { IsOkUnless result WireError.OutOfMemory }
+    {
+        if !is_set {
+            return Ok(self);
+        }
+        self.with_varint_field(number, 1)
+    }
+
+    /// A singular text before what is written: an empty one is left out.
+    #[tactic(auto, using(crate::proofs::Headers::no_text, crate::proofs::Headers::some_text))]
+    pub fn with_text_field(self, number: u32, text: &str) -> Result<Backward, WireError>
+        requires some { 0 < number }
+        requires most { number < 2 ^ 29 }
+        ensures written { IfOk result (λ b. b ≡ text_field number text.now ++ self) }
+        ensures memory { IsOkUnless result WireError.OutOfMemory }
+    {
+        if text.is_empty() {
+            return Ok(self);
+        }
+        self.with_bytes_field(number, text.as_bytes())
     }
 
     /// What was written since there were `before` bytes, as the bytes of a field.
