@@ -4,6 +4,8 @@ mod bool;
 mod compare;
 mod decimal;
 mod kinds;
+#[cfg(test)]
+mod leaf_tests;
 mod numbers;
 mod primitive;
 mod truths;
