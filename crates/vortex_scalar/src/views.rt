@@ -14,3 +14,6 @@ pub use self::bool::BoolScalar;
 pub use self::decimal::DecimalScalar;
 pub use self::primitive::PrimitiveScalar;
 pub use list::ListScalar;
+
+#[cfg(test)]
+mod leaf_tests;
