@@ -4,6 +4,7 @@
 mod backward;
 mod error;
 mod field;
+mod inside;
 mod message;
 mod metadata;
 mod schema;
@@ -12,6 +13,10 @@ mod varint;
 pub use backward::Backward;
 pub use error::WireError;
 pub use field::{Fields, WireField, WireValue, put_bytes};
+pub use inside::{
+    bytes_fields, flag, is_message, message_field, optional_bytes, singular_i32, singular_text,
+    text_of, texts,
+};
 pub use message::{only_field, put_varint_field, singular_u32, singular_varint};
 pub use metadata::{DecimalMetadata, DictMetadata, ListMetadata};
 pub use schema::metadata_schema;
