@@ -1,6 +1,10 @@
 //! Conversions between scalars and native values.
 #![tactic(auto)]
 
+mod native_numbers;
+mod native_option;
+mod native_scalar;
+mod native_texts;
 mod numbers;
 mod plain;
 mod scalars;
