@@ -24,6 +24,7 @@ impl<'a> BoolScalar<'a> {
     ghost use Rattle.std.specs.Prelude.{◌≡◌, not};
     ghost use Rattle.std.specs.Option.{option_map};
     ghost use Rattle.vortex_scalar.specs.ViewRows.{view_of, inverted, Shows};
+    ghost use Rattle.vortex_terms.specs.Types.{Legal};
     ghost use Rattle.vortex_terms.specs.Fits.{Fits};
     ghost use Rattle.vortex_scalar.specs.Views.{bool_term};
 
@@ -72,12 +73,14 @@ impl<'a> BoolScalar<'a> {
         Scalar::new(DType::Bool(self.dtype.nullability()), value)
     }
 
-    /// The type is one of truth values, and the row fits it. It does nothing when the program runs.
+    /// The type is a legal one of truth values, and the row fits it. It does nothing when the
+    /// program runs.
     pub fn law(&self)
         ensures kind { IsTrue (is_boolean (bool_term self.now).dtype) }
+        ensures legal { Legal (bool_term self.now).dtype }
         ensures fits { Fits (bool_term self.now).dtype (bool_term self.now).row }
     {
-        let _ = self.value;
+        self.dtype.law();
     }
 
     /// The truth value, if it is not null.

@@ -27,6 +27,7 @@ pub struct DecimalScalar<'a> {
 
 impl<'a> DecimalScalar<'a> {
     ghost use Rattle.std.specs.Prelude.{◌≡◌};
+    ghost use Rattle.vortex_terms.specs.Types.{Legal};
     ghost use Rattle.vortex_terms.specs.Fits.{Fits};
     ghost use Rattle.vortex_scalar.specs.ViewRows.{view_of, Shows};
     ghost use Rattle.vortex_scalar.specs.Views.{decimal_term};
@@ -95,12 +96,14 @@ impl<'a> DecimalScalar<'a> {
         }
     }
 
-    /// The type is one of decimals, and the row fits it. It does nothing when the program runs.
+    /// The type is a legal one of decimals, and the row fits it. It does nothing when the
+    /// program runs.
     pub fn law(&self)
         ensures kind { IsTrue (is_decimal (decimal_term self.now).dtype) }
+        ensures legal { Legal (decimal_term self.now).dtype }
         ensures fits { Fits (decimal_term self.now).dtype (decimal_term self.now).row }
     {
-        let _ = self.value;
+        self.dtype.law();
     }
 }
 

@@ -33,6 +33,7 @@ pub struct PrimitiveScalar<'a> {
 impl<'a> PrimitiveScalar<'a> {
     ghost use Rattle.std.specs.Prelude.{IfSome, IsSome};
     ghost use Rattle.std.specs.Option.{option_map};
+    ghost use Rattle.vortex_terms.specs.Types.{Legal};
     ghost use Rattle.vortex_terms.specs.Fits.{Fits};
     ghost use Rattle.vortex_types.specs.Predicates.{is_primitive};
     ghost use Rattle.vortex_scalar.specs.ViewRows.{number_in, view_of, within, Shows};
@@ -143,13 +144,14 @@ impl<'a> PrimitiveScalar<'a> {
         )
     }
 
-    /// The type is one of whole numbers, and the row fits it. It does nothing when the program
-    /// runs.
+    /// The type is a legal one of whole numbers, and the row fits it. It does nothing when the
+    /// program runs.
     pub fn law(&self)
         ensures kind { IsTrue (is_primitive (primitive_term self.now).dtype) }
+        ensures legal { Legal (primitive_term self.now).dtype }
         ensures fits { Fits (primitive_term self.now).dtype (primitive_term self.now).row }
     {
-        let _ = self.pvalue;
+        self.dtype.law();
     }
 }
 
