@@ -40,7 +40,7 @@ part_lighter (every u) i t e = let same = weight_at u t e in omega arith
 part_lighter (each fs) i t e = field-lighter fs i t e
 
 -- the row of the first value that is left, and the rows of the rest
-rows_step : (c : InTerm) (i : ℕ) (t : Term) (v : ValueTerm) (vs : ValueTerms) → in_at c i ≡ Some t
+pub rows_step : (c : InTerm) (i : ℕ) (t : Term) (v : ValueTerm) (vs : ValueTerms) → in_at c i ≡ Some t
     → in_rows (in_drop i c) (value v vs) ≡ row_before (row_of t v) (in_rows (in_drop (suc i) c) vs)
 rows_step (every u) i t v vs e = same u t e
   where

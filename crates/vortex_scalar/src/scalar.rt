@@ -72,6 +72,14 @@ impl Scalar {
         &self.value
     }
 
+    // The type and the value.
+    pub(crate) fn parts(&self) -> (&DType, &ScalarValue)
+        ensures scalar { scalar_of (term_of result.0.now) result.1.now ≡ self.now }
+        ensures fits { IsSome (fitting_row (term_of result.0.now) result.1.now) }
+    {
+        (&self.dtype, &self.value)
+    }
+
     /// The type and the value.
     pub fn into_parts(self) -> (DType, ScalarValue)
         ensures dtype { term_of result.0 ≡ self.dtype }

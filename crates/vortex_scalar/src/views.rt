@@ -3,9 +3,11 @@
 mod bool;
 mod compare;
 mod decimal;
+mod fitting;
 mod kinds;
 #[cfg(test)]
 mod leaf_tests;
+mod list;
 mod numbers;
 mod primitive;
 mod truths;
@@ -13,3 +15,4 @@ mod truths;
 pub use self::bool::BoolScalar;
 pub use self::decimal::DecimalScalar;
 pub use self::primitive::PrimitiveScalar;
+pub use list::ListScalar;

@@ -1,0 +1,168 @@
+//! A type and a value that fits it, both lent.
+
+ghost use Rattle.std.specs.Prelude.{◌≡◌, Some, IfOk, IsOkUnless, slice_get, length};
+ghost use Rattle.std.specs.Option.{IsSome, option_copied, option_map, option_map_or};
+ghost use Rattle.vortex_terms.specs.Types.{Legal, field_at};
+ghost use Rattle.vortex_terms.specs.Row.{is_null};
+ghost use Rattle.vortex_terms.specs.Fits.{Fits};
+ghost use Rattle.vortex_types.specs.DTypes.{term_of};
+ghost use Rattle.vortex_scalar.specs.RowOf.{row_of, fitting_row};
+ghost use Rattle.vortex_scalar.specs.Made.{scalar_of};
+ghost use Rattle.vortex_scalar.specs.LargeViews.{part_type, part_scalar, part_scalars};
+ghost use Rattle.vortex_scalar.specs.LargeViews.{count_within};
+ghost use Rattle.vortex_scalar.specs.inner.Parts.{values_within, value_within};
+
+use crate::scalar::Scalar;
+use std::alloc::Global;
+use std::marker::Model;
+use vortex_scalar_value::{ScalarError, ScalarValue, ValueRef};
+use vortex_types::{DType, StructFields};
+
+/// A type and a value that fits it, both lent. Contracts see it as its type and its row.
+#[derive(Drop)]
+pub(crate) struct Fitting<'a> {
+    dtype: &'a DType,
+    value: &'a ScalarValue,
+}
+
+impl<'a> Model for Fitting<'a> {
+    ghost use Rattle.std.specs.Option.{IsSome};
+    ghost use Rattle.vortex_types.specs.DTypes.{term_of};
+    ghost use Rattle.vortex_scalar.specs.RowOf.{fitting_row};
+    ghost use Rattle.vortex_scalar.specs.ScalarTerm.{ScalarTerm, coded_scalar};
+    ghost use Rattle.vortex_scalar.specs.Made.{scalar_of};
+
+    ghost Value = { ScalarTerm };
+
+    ghost coded = { coded_scalar };
+
+    ghost view = { λ s. scalar_of (term_of s.dtype.now) s.value.now };
+
+    ghost invariant = { λ s. IsSome (fitting_row (term_of s.dtype.now) s.value.now) };
+}
+
+impl Scalar {
+    /// The scalar, lent.
+    pub(crate) fn fitting(&self) -> Fitting<'_>
+        ensures { result ≡ self.now }
+    {
+        self.law();
+        Fitting {
+            dtype: self.dtype(),
+            value: self.value(),
+        }
+    }
+}
+
+impl<'a> Fitting<'a> {
+    /// The type.
+    pub(crate) fn dtype(&self) -> &'a DType
+        ensures { term_of result.now ≡ self.now.dtype }
+    {
+        self.dtype
+    }
+
+    /// The value.
+    pub(crate) fn value(&self) -> &'a ScalarValue
+        ensures { row_of self.now.dtype result.now ≡ Some self.now.row }
+    {
+        self.value
+    }
+
+    /// Whether it is null.
+    pub(crate) fn is_null(&self) -> bool
+        ensures { result ≡ is_null self.now.row }
+    {
+        self.value.is_null()
+    }
+
+    /// How many parts a list or a struct has, 0 where it is null.
+    pub(crate) fn len(&self) -> usize
+        ensures { result ≡ count_within self.now.row }
+    {
+        match inside(self.value) {
+            Some(values) => values.len(),
+            None => 0,
+        }
+    }
+
+    /// What stands at an index inside a list or a struct.
+    pub(crate) fn part(&self, alloc: Global, index: usize) -> Result<Option<Scalar>, ScalarError>
+        ensures part { IfOk result (λ o. o ≡ part_scalar self.now index) }
+        ensures memory { IsOkUnless result ScalarError.OutOfMemory }
+    {
+        let value = match value_inside(self.value, index) {
+            Some(value) => value,
+            None => return Ok(None),
+        };
+        match dtype_inside(alloc, self.dtype, index)? {
+            Some(dtype) => Ok(Some(Scalar::new(dtype, value.try_clone(alloc)?))),
+            None => Ok(None),
+        }
+    }
+
+    /// The type is legal, and the row fits it. It does nothing when the program runs.
+    pub(crate) fn law(&self)
+        ensures legal { Legal self.now.dtype }
+        ensures fits { Fits self.now.dtype self.now.row }
+    {
+        self.dtype.law();
+    }
+}
+
+/// The values inside a list or a struct.
+pub(crate) fn inside(value: &ScalarValue) -> Option<&[ScalarValue]>
+    ensures { option_copied result ≡ values_within value.now }
+{
+    match value.value_ref() {
+        ValueRef::List(values) => Some(values),
+        _ => None,
+    }
+}
+
+/// The value at an index inside a list or a struct.
+fn value_inside(value: &ScalarValue, index: usize) -> Option<&ScalarValue>
+    ensures { option_copied result ≡ value_within value.now index }
+{
+    inside(value)?.get(index)
+}
+
+/// The type at an index inside a list or a struct.
+fn dtype_inside(alloc: Global, dtype: &DType, index: usize) -> Result<Option<DType>, ScalarError>
+    ensures part { IfOk result (λ o. option_map term_of o ≡ part_type (term_of dtype.now) index) }
+    ensures memory { IsOkUnless result ScalarError.OutOfMemory }
+{
+    match dtype {
+        DType::List(element, _) | DType::FixedSizeList(element, _, _) => {
+            Ok(Some(shared_dtype(alloc, element.as_dtype())?))
+        }
+        DType::Struct(fields, _) => field_dtype(alloc, fields, index),
+        _ => Ok(None),
+    }
+}
+
+/// The type of the field at an index.
+fn field_dtype(
+    alloc: Global,
+    fields: &StructFields,
+    index: usize,
+) -> Result<Option<DType>, ScalarError>
+    ensures field { IfOk result (λ o. option_map term_of o ≡ field_at fields.now index) }
+    ensures memory { IsOkUnless result ScalarError.OutOfMemory }
+{
+    match fields.field_by_index(alloc, index) {
+        Ok(dtype) => Ok(dtype),
+        Err(_) => Err(ScalarError::OutOfMemory),
+    }
+}
+
+/// The same type, shared.
+pub(crate) fn shared_dtype(alloc: Global, dtype: &DType) -> Result<DType, ScalarError>
+    ensures term { IfOk result (λ t. term_of t ≡ term_of dtype.now) }
+    ensures memory { IsOkUnless result ScalarError.OutOfMemory }
+{
+    match dtype.try_clone(alloc) {
+        Ok(dtype) => Ok(dtype),
+        Err(_) => Err(ScalarError::OutOfMemory),
+    }
+}
