@@ -10,10 +10,10 @@ mod numbers;
 mod primitive;
 mod truths;
 
+pub use list::ListScalar;
 pub use self::bool::BoolScalar;
 pub use self::decimal::DecimalScalar;
 pub use self::primitive::PrimitiveScalar;
-pub use list::ListScalar;
 
 #[cfg(test)]
 mod leaf_tests;
