@@ -7,5 +7,5 @@ mod scalar;
 mod views;
 
 pub use scalar::Scalar;
-pub use views::ListScalar;
+pub use views::{ExtScalar, ListScalar, StructScalar};
 pub use vortex_scalar_value::{ScalarError, ScalarValue, ValueRef};
