@@ -3,7 +3,7 @@
 
     bench/damage.py [--program PATH]
 
-The streams are every front of one of two arrays, the same with each byte changed in several ways, and a few with pieces of
+The streams are every prefix of one of two arrays, the same with each byte changed in several ways, and a few with pieces of
 others put in. Outside the gate: it needs rustc. Prints each difference, and last how many streams were alike.
 """
 import argparse
@@ -25,7 +25,7 @@ SPLICES = 500
 def damaged(whole):
     """Pairs of a name and a stream."""
     for length in range(len(whole) + 1):
-        yield f"front {length}", whole[:length]
+        yield f"prefix {length}", whole[:length]
     for place in range(len(whole)):
         old = whole[place]
         for new in sorted({0, 1, 4, 255, old ^ 1, old ^ 128, (old + 4) % 256, (old - 1) % 256} - {old}):

@@ -49,10 +49,10 @@ def rows_message(count):
     return streams.array_message(array("q", random_bytes(8 * count)))
 
 
-def message(names=PLAIN_NAMES, metadata=b"", records=b"\1\0\0\0" + bytes(8), region=b"", rows=0):
-    """An array by a record vector that is given as its bytes, whose first buffer has the rows."""
+def message(names=PLAIN_NAMES, metadata=b"", descriptors=b"\1\0\0\0" + bytes(8), region=b"", rows=0):
+    """An array by a vector of descriptors that is given as its bytes, whose first buffer has the rows."""
     node = ("table", [(2, 0), (0, ("raw", metadata)), (0, ("offsets", [])), (0, ("numbers", [0]))])
-    flat = streams.laid_out(("table", [(0, node), (0, ("ready", records))]))
+    flat = streams.laid_out(("table", [(0, node), (0, ("ready", descriptors))]))
     return streams.message(1, ("table", [(4, rows), (0, names)]), region + flat + struct.pack("<I", len(flat)))
 
 
@@ -63,7 +63,7 @@ def shared_names(count, text=streams.PLAIN):
 
 
 def short_message():
-    """An array without rows in 141 bytes: no padding, no field that may be absent, and one vector for records and buffers."""
+    """An array without rows in 141 bytes: no padding, no field that may be absent, and one vector for descriptors and buffers."""
     header = struct.pack("<I6HiIQB", 16, 12, 17, 0, 16, 4, 8, 12, 21, 60, 1)
     header += struct.pack("<4HiI", 8, 8, 0, 4, 8, 4) + struct.pack("<3I", 1, 4, len(streams.PLAIN)) + streams.PLAIN
     flat = struct.pack("<I4HiII", 12, 8, 12, 4, 8, 8, 20, 24) + struct.pack("<6HiI", 12, 8, 0, 0, 0, 4, 12, 4)
@@ -84,15 +84,15 @@ def one_array(size):
     return TYPE + rows_message((size - 340) // 8)
 
 
-def records_of_one_byte(size):
+def descriptors_of_one_byte(size):
     count = size // 9 - 100
-    records = struct.pack("<IQ", count, 8 << 32) + struct.pack("<Q", 1 << 32) * (count - 1)
-    return TYPE + message(records=records, region=bytes(8 + count - 1), rows=1)
+    descriptors = struct.pack("<IQ", count, 8 << 32) + struct.pack("<Q", 1 << 32) * (count - 1)
+    return TYPE + message(descriptors=descriptors, region=bytes(8 + count - 1), rows=1)
 
 
-def records_of_no_byte(size):
+def descriptors_of_no_byte(size):
     count = size // 8 - 100
-    return TYPE + message(records=struct.pack("<I", count) + bytes(8 * count))
+    return TYPE + message(descriptors=struct.pack("<I", count) + bytes(8 * count))
 
 
 def long_name(size):
@@ -120,8 +120,8 @@ STREAMS = [
     ("headers of 65,536 names, one text", SELECTED, lambda size: filled(size, message(shared_names(MOST_NAMES)))),
     ("a header of millions of names", UNBUILT, lambda size: filled(size, message(shared_names(size // 4 - 200)))),
     ("65,536 names, one text of megabytes", UNBUILT, long_name),
-    ("millions of records", SELECTED, records_of_one_byte),
-    ("millions of records of no byte", SELECTED, records_of_no_byte),
+    ("millions of descriptors", SELECTED, descriptors_of_one_byte),
+    ("millions of descriptors of no byte", SELECTED, descriptors_of_no_byte),
     ("metadata of megabytes", SELECTED, lambda size: TYPE + message(metadata=random_bytes(size - 500))),
     ("a header that is the rest", UNBUILT, whole_header),
     ("a length of a header of 2^32 - 1", UNBUILT, lambda size: TYPE + b"\xff" * 4 + random_bytes(size - 120)),

@@ -110,7 +110,7 @@ def type_message():
 
 
 def array_message(rows):
-    """A plain array; `rows` is an array of signed 64-bit numbers."""
+    """A primitive array; `rows` is an array of signed 64-bit numbers."""
     region = rows.tobytes() if sys.byteorder == "little" else struct.pack(f"<{len(rows)}q", *rows)
     node = ("table", [(2, 0), (0, ("raw", b"")), (0, ("offsets", [])), (0, ("numbers", [0]))])
     flat = laid_out(("table", [(0, node), (0, ("records", [len(region) << 32]))]))
@@ -198,7 +198,7 @@ def messages_of(stream):
 
 
 def rows_of(header, body):
-    """The rows of a plain array."""
+    """The rows of a primitive array."""
     for place in header.elements(1, 4):
         text = place + number_at(header.bytes, place, "<I")
         if header.bytes[text + 4:text + 4 + number_at(header.bytes, text, "<I")] != PLAIN:

@@ -145,8 +145,8 @@ fn after_type(bytes: &[u8]) -> Option<&[u8]> {
     legal.then_some(rest)
 }
 
-/// How many names the header of an array has, each of which is that of plain columns.
-fn plain_names(header: &[u8], inner: &Table) -> Option<usize> {
+/// How many names the header of an array has, each of which is that of primitive columns.
+fn primitive_names(header: &[u8], inner: &Table) -> Option<usize> {
     let (first, count) = vector_field(header, inner, 1, 4)?;
     for i in 0..count {
         let (at, len) = vector_at(header, follow(header, first + 4 * i)?, 1)?;
@@ -175,8 +175,8 @@ fn buffer<'a>(region: &'a [u8], flat: &[u8], records: (usize, usize), wanted: us
     found
 }
 
-/// The bytes of the rows of a body, by one plain node without children.
-fn plain_rows(body: &[u8], rows: u64, names: usize) -> Option<&[u8]> {
+/// The bytes of the rows of a body, by one primitive node without children.
+fn primitive_rows(body: &[u8], rows: u64, names: usize) -> Option<&[u8]> {
     let before_len = body.len().checked_sub(4)?;
     let flat_at = before_len.checked_sub(number(body, before_len, 4)? as usize)?;
     let (region, flat) = (&body[..flat_at], &body[flat_at..before_len]);
@@ -202,9 +202,9 @@ fn array(bytes: &[u8]) -> Option<(&[u8], &[u8])> {
         return None;
     }
     let rows = number_field(header, &inner, 0, 4)?;
-    let names = plain_names(header, &inner)?;
+    let names = primitive_names(header, &inner)?;
     let (body, rest) = split(rest, size)?;
-    Some((plain_rows(body, rows, names)?, rest))
+    Some((primitive_rows(body, rows, names)?, rest))
 }
 
 // The selection.

@@ -24,4 +24,6 @@ pub use vortex_types::{
 };
 
 #[cfg(test)]
+mod proto_tests;
+#[cfg(test)]
 mod tests;

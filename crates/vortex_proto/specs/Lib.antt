@@ -1,3 +1,5 @@
 pub mod TypeMessage
 pub mod TypeBytes
 pub mod PathMessage
+pub mod Reading
+pub mod Views

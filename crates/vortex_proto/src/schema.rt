@@ -8,40 +8,56 @@ pub(crate) const FIRST_KIND: u32 = 1;
 /// The greatest number of a kind of type.
 pub(crate) const LAST_KIND: u32 = 10;
 
-/// Of truth values, texts and bytes.
-pub(crate) const PLAIN_NULLABLE: u32 = 1;
+/// Whether truth values, texts and bytes are nullable.
+pub const PLAIN_NULLABLE: u32 = 1;
 
-pub(crate) const PRIMITIVE_PTYPE: u32 = 1;
+/// The number of the kind of whole numbers.
+pub const PRIMITIVE_PTYPE: u32 = 1;
 
-pub(crate) const PRIMITIVE_NULLABLE: u32 = 2;
+/// Whether whole numbers are nullable.
+pub const PRIMITIVE_NULLABLE: u32 = 2;
 
-pub(crate) const DECIMAL_PRECISION: u32 = 1;
+/// How many digits a decimal has.
+pub const DECIMAL_PRECISION: u32 = 1;
 
-pub(crate) const DECIMAL_SCALE: u32 = 2;
+/// How many of them stand behind the point.
+pub const DECIMAL_SCALE: u32 = 2;
 
-pub(crate) const DECIMAL_NULLABLE: u32 = 3;
+/// Whether decimals are nullable.
+pub const DECIMAL_NULLABLE: u32 = 3;
 
-pub(crate) const STRUCT_NAMES: u32 = 1;
+/// The names of a struct.
+pub const STRUCT_NAMES: u32 = 1;
 
-pub(crate) const STRUCT_DTYPES: u32 = 2;
+/// The types of a struct.
+pub const STRUCT_DTYPES: u32 = 2;
 
-pub(crate) const STRUCT_NULLABLE: u32 = 3;
+/// Whether structs are nullable.
+pub const STRUCT_NULLABLE: u32 = 3;
 
-pub(crate) const LIST_ELEMENT: u32 = 1;
+/// The type of what is in a list.
+pub const LIST_ELEMENT: u32 = 1;
 
-pub(crate) const LIST_NULLABLE: u32 = 2;
+/// Whether lists are nullable.
+pub const LIST_NULLABLE: u32 = 2;
 
-pub(crate) const EXTENSION_ID: u32 = 1;
+/// The id of an extension.
+pub const EXTENSION_ID: u32 = 1;
 
-pub(crate) const EXTENSION_STORAGE: u32 = 2;
+/// The type in which an extension is stored.
+pub const EXTENSION_STORAGE: u32 = 2;
 
-pub(crate) const EXTENSION_METADATA: u32 = 3;
+/// The metadata of an extension.
+pub const EXTENSION_METADATA: u32 = 3;
 
-pub(crate) const FIXED_ELEMENT: u32 = 1;
+/// The type of what is in a list of one length.
+pub const FIXED_ELEMENT: u32 = 1;
 
-pub(crate) const FIXED_SIZE: u32 = 2;
+/// How long each such list is.
+pub const FIXED_SIZE: u32 = 2;
 
-pub(crate) const FIXED_NULLABLE: u32 = 3;
+/// Whether such lists are nullable.
+pub const FIXED_NULLABLE: u32 = 3;
 
 pub(crate) const PATH_FIELDS: u32 = 1;
 

@@ -1,5 +1,5 @@
 -- Values that have a row, and rows that fit.
-use Rattle.std.proofs.Common.{◌≡◌, ℕ, ℤ, List, IsUtf8, Err, Bool, true, false, Option, Some, None, refl, ap, subst, ◌∙◌}
+use Rattle.std.proofs.Common.{◌≡◌, ℕ, ℤ, List, IsUtf8, Ok, Err, Bool, true, false, Option, Some, None, refl, sym, ap, subst, ◌∙◌}
 use Rattle.std.specs.Option.{IsSome, is_some, option_map, option_and_then}
 use Rattle.std.specs.Str.{is_utf8}
 use Rattle.std.proofs.lemmas.Str.{IsUtf8-from_is_utf8}
@@ -13,7 +13,7 @@ use Rattle.vortex_terms.specs.TestLaws.{is_fitting-Decides}
 use Rattle.vortex_scalar_value.specs.Value.{ValueTerm, null_value, truth_value, whole_value, decimal_value, bytes_value, text_value, list_value, is_null_value}
 use Rattle.vortex_scalar.specs.RowOf.{row_of, fitting_row, number_of_bytes, field_rows, rows_by}
 use Rattle.vortex_scalar.specs.ScalarTerm.{ScalarTerm}
-use Rattle.vortex_scalar.specs.Made.{typed, scalar_of, text_scalar}
+use Rattle.vortex_scalar.specs.Made.{typed, scalar_of, text_scalar, IsScalarOf}
 
 -- a row that fits is the fitting row
 pub fitting : (t : Term) (v : ValueTerm) (r : Row) → row_of t v ≡ Some r → Fits t r → fitting_row t v ≡ Some r
@@ -124,3 +124,18 @@ fits_at t u v r e here fits = ap (λ s. is_some (fitting_row s v)) e ∙ is_made
 
 pub made_at : (t u : Term) (v : ValueTerm) (r : Row) (s : ScalarTerm) → t ≡ u → row_of u v ≡ Some r → Fits u r → s ≡ scalar_of t v → s ≡ typed u r
 made_at t u v r s e here fits made = made ∙ ap (λ w. scalar_of w v) e ∙ makes u v r here fits
+
+-- what a value that fits makes, and that one that does not makes nothing
+pub is_scalar : (t u : Term) (v : ValueTerm) (s : ScalarTerm) (b : Bool) → b ≡ is_some (fitting_row u v) → u ≡ t → b ≡ true → s ≡ scalar_of t v → IsScalarOf t v (Ok s)
+is_scalar t u v s b tested at passed made =
+    let some : IsSome (fitting_row t v) = ap (λ w. is_some (fitting_row w v)) (sym at) ∙ sym tested ∙ passed in (
+      ap (λ (z : ScalarTerm). z.dtype) made,
+      (fitted t v some).0 ∙ ap (λ (z : ScalarTerm). Some z.row) (sym made),
+      subst (λ (z : ScalarTerm). Fits t z.row) (sym made) (fitted t v some).1,
+    )
+
+pub is_refused : (t u : Term) (v : ValueTerm) (b : Bool) → b ≡ is_some (fitting_row u v) → u ≡ t → b ≡ false → IsScalarOf t v (Err error.DoesNotFit)
+is_refused t u v b tested at failed = (refl, λ r here fits. true_is_false (sym (is_made t v r here fits) ∙ ap (λ w. is_some (fitting_row w v)) (sym at) ∙ sym tested ∙ failed))
+  where
+    true_is_false : true ≡ false → ⊥
+    true_is_false e = absurd cc

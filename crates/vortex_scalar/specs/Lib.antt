@@ -1,8 +1,14 @@
 pub mod RowOf
+pub mod RowLaws
 pub mod ScalarTerm
 pub mod Answers
 pub mod Made
 pub mod Compare
 pub mod HashInput
+pub mod ScalarMessage
+pub mod ViewRows
+pub mod Views
+pub mod BoolLaws
 pub mod LargeViews
 pub mod inner
+pub mod EqualLaws

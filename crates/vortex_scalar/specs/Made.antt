@@ -4,7 +4,7 @@
 --     IsScalarOf        what an answer says of it
 --     text_scalar       the scalar of a text
 --     rows_inside       the rows of scalars inside a list
-use Rattle.std.specs.Prelude.{◌≡◌, ℕ, Bool, List, map, Option, Some, Result, Ok, Err, unwrap_or, if◌then◌else◌}
+use Rattle.std.specs.Prelude.{◌≡◌, ℕ, Bool, List, map, Some, Result, Ok, Err, unwrap_or, if◌then◌else◌}
 use Rattle.std.specs.Str.{is_utf8}
 use Rattle.vortex_terms.specs.Term.{Term, utf8}
 use Rattle.vortex_terms.specs.Row.{Row, Rows, null_row, bytes_row, rows_from}

@@ -1,8 +1,9 @@
 -- Which row a value is under a type.
 --     row_of            the row, where the value has the form of the type's rows
+--     row_under         the row, and null where there is none
 --     fitting_row       the row, where it fits the type
 use Rattle.std.specs.Prelude.{ℕ, ℤ, List, length, Option, Some, None, if◌then◌else◌, ◌==◌}
-use Rattle.std.specs.Option.{option_map}
+use Rattle.std.specs.Option.{option_map, unwrap_or}
 use Rattle.std.specs.Int.{w8, w16, w32, w64, w128}
 use Rattle.vortex_prelude.specs.Chain.{◌>>=◌}
 use Rattle.vortex_number.specs.Format.{signed, number_with_bytes}
@@ -62,6 +63,10 @@ abbrev mutual
   field_rows no_fields no_values = Some no_rows
   field_rows (field x t fs) (value v vs) = row_before (row_of t v) (field_rows fs vs)
   field_rows _ _ = None
+
+-- the row that a value is under a type, and null where it is none
+abbrev pub row_under : Term → ValueTerm → Row
+row_under t v = unwrap_or (row_of t v) null_row
 
 -- the row that a value is under a type that it fits
 abbrev pub fitting_row : Term → ValueTerm → Option Row

@@ -1,2 +1,4 @@
+pub mod Inside
+pub mod Held
 pub mod Kept
 pub mod Parts

@@ -60,7 +60,11 @@ impl Scalar {
     }
 
     /// A decimal of this precision and scale. Its digits are not counted.
-    pub fn decimal(value: DecimalValue, decimal_dtype: DecimalDType, nullability: Nullability) -> Scalar
+    pub fn decimal(
+        value: DecimalValue,
+        decimal_dtype: DecimalDType,
+        nullability: Nullability,
+    ) -> Scalar
         ensures { let t = decimal decimal_dtype.precision decimal_dtype.scale (is_null nullability) in
             result ≡ typed t (whole_row (decimal_number value)) }
     {
@@ -70,11 +74,7 @@ impl Scalar {
     }
 
     /// A text, copied.
-    pub fn utf8(
-        alloc: Global,
-        text: &str,
-        nullability: Nullability,
-    ) -> Result<Scalar, ScalarError>
+    pub fn utf8(alloc: Global, text: &str, nullability: Nullability) -> Result<Scalar, ScalarError>
         ensures scalar { let t = utf8 (is_null nullability) in
             IfOk result (λ s. s ≡ typed t (bytes_row text.now)) }
         ensures memory { IsOkUnless result ScalarError.OutOfMemory }

@@ -2,10 +2,21 @@
 #![tactic(auto)]
 
 mod build;
+mod fit;
+mod hash;
+mod impls;
+mod inside;
+mod leaf;
 mod nested;
+mod order;
+mod row_ref;
 mod scalar;
+mod scalar_type;
+mod schema;
 mod views;
 
 pub use scalar::Scalar;
-pub use views::{ExtScalar, ListScalar, StructScalar};
+pub use scalar_type::ScalarType;
+pub use schema::scalar_schema;
+pub use views::{BoolScalar, DecimalScalar, ExtScalar, ListScalar, PrimitiveScalar, StructScalar};
 pub use vortex_scalar_value::{ScalarError, ScalarValue, ValueRef};

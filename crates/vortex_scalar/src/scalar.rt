@@ -7,8 +7,9 @@ ghost use Rattle.vortex_terms.specs.Row.{is_null};
 ghost use Rattle.vortex_terms.specs.Fits.{Fits};
 ghost use Rattle.vortex_types.specs.DTypes.{term_of};
 ghost use Rattle.vortex_scalar.specs.RowOf.{row_of, fitting_row};
-ghost use Rattle.vortex_scalar.specs.Made.{scalar_of};
+ghost use Rattle.vortex_scalar.specs.Made.{scalar_of, IsScalarOf};
 
+use crate::fit::fits;
 use std::alloc::Global;
 use std::marker::Model;
 use vortex_scalar_value::{ScalarError, ScalarValue};
@@ -46,6 +47,17 @@ impl Scalar {
         Scalar { dtype, value }
     }
 
+    /// The scalar of a type and a value, where it fits the type.
+    pub fn try_new(dtype: DType, value: ScalarValue) -> Result<Scalar, ScalarError>
+        ensures { IsScalarOf (term_of dtype) value result }
+    {
+        if fits(dtype.type_ref(), &value) {
+            Ok(Scalar::new(dtype, value))
+        } else {
+            Err(ScalarError::DoesNotFit)
+        }
+    }
+
     /// The type.
     pub fn dtype(&self) -> &DType
         ensures { term_of result.now ≡ self.now.dtype }
@@ -58,6 +70,14 @@ impl Scalar {
         ensures { row_of self.now.dtype result.now ≡ Some self.now.row }
     {
         &self.value
+    }
+
+    // The type and the value.
+    pub(crate) fn parts(&self) -> (&DType, &ScalarValue)
+        ensures scalar { scalar_of (term_of result.0.now) result.1.now ≡ self.now }
+        ensures fits { IsSome (fitting_row (term_of result.0.now) result.1.now) }
+    {
+        (&self.dtype, &self.value)
     }
 
     /// The type and the value.

@@ -6,3 +6,6 @@ pub mod Kinds
 pub mod Falls
 pub mod ValueMessage
 pub mod ValueBytes
+pub mod Reading
+pub mod Held
+pub mod Standing

@@ -5,6 +5,7 @@ ghost use Rattle.vortex_scalar_value.specs.declared.error.ScalarError.TheVariant
 
 use std::alloc::{AllocError, AllocFailed};
 use thiserror::Error;
+use vortex_wire::WireError;
 
 /// Why a call on scalars was refused.
 #[derive(Clone, Copy, Debug, PartialEq, Eq, Error)]
@@ -88,5 +89,18 @@ impl<T: Drop> From<AllocFailed<T>> for ScalarError {
 
     fn from(_e: AllocFailed<T>) -> ScalarError {
         ScalarError::OutOfMemory
+    }
+}
+
+impl From<WireError> for ScalarError {
+    ghost use Rattle.vortex_scalar_value.specs.ErrorNumber.{of_wire};
+
+    ghost from_gives = { λ wire e. e ≡ of_wire wire };
+
+    fn from(error: WireError) -> ScalarError {
+        match error {
+            WireError::Malformed => ScalarError::Malformed,
+            WireError::OutOfMemory => ScalarError::OutOfMemory,
+        }
     }
 }

@@ -9,3 +9,4 @@ pub mod Projected
 pub mod Fed
 pub mod Listed
 pub mod ReadTypes
+pub mod Messages

@@ -1,5 +1,5 @@
 //! Types: what they are, how they compare, print and hash, and how they are written as flat buffers
-//! and read from them.
+//! and read from them, and as Protocol Buffers messages.
 #![tactic(auto)]
 
 mod accessors;
@@ -19,6 +19,7 @@ mod room;
 mod shape;
 mod struct_fields;
 mod struct_fields_iter;
+mod to_proto;
 mod type_ref;
 mod writing;
 

@@ -3,7 +3,10 @@
 
 #[cfg(test)]
 mod damage_tests;
+mod laws;
 #[cfg(test)]
 mod plain_reader;
 #[cfg(test)]
 mod worked_tests;
+
+pub use laws::encoding_is_spelled;

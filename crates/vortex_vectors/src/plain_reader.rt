@@ -191,13 +191,13 @@ fn primitive_names(content: &Table) -> Option<u64> {
 
 // The buffer of that number among those that the descriptors tell, which stand in the region one
 // after the other.
-fn buffer<'a>(region: &'a [u8], records: &[u8], wanted: usize) -> Option<&'a [u8]> {
+fn buffer<'a>(region: &'a [u8], descriptors: &[u8], wanted: usize) -> Option<&'a [u8]> {
     let mut rest = region;
     let mut found = None;
-    for (place, record) in records.chunks_exact(8).enumerate() {
-        let behind = rest.get(count(record, 2)?..)?;
-        let (this, after) = behind.split_at_checked(count(record.get(4..)?, 4)?)?;
-        if *record.get(3)? != 0 {
+    for (place, descriptor) in descriptors.chunks_exact(8).enumerate() {
+        let behind = rest.get(count(descriptor, 2)?..)?;
+        let (this, after) = behind.split_at_checked(count(descriptor.get(4..)?, 4)?)?;
+        if *descriptor.get(3)? != 0 {
             return None;
         }
         if place == wanted {

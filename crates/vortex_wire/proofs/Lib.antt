@@ -4,3 +4,9 @@ pub mod FieldLaws
 pub mod Singular
 pub mod Records
 pub mod Only
+pub mod BytesFound
+pub mod Options
+pub mod Bytes
+pub mod TextLaws
+pub mod Headers
+pub mod Pieces

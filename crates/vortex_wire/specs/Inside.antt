@@ -4,7 +4,7 @@
 --     singular_text, optional_bytes, message      a text, bytes that may be absent, and a message
 --     flag, singular_i32      a truth value, and a signed number of 32 bits
 use Rattle.std.specs.Prelude.{ℕ, ◌-◌, ◌^◌, ◌==◌, ℤ, pos, negsuc, Bool, List, [], ◌∷◌, Option, Some, None}
-use Rattle.std.specs.Prelude.{if◌then◌else◌, nat_lt, filter, unwrap_or, ◌++◌, suc}
+use Rattle.std.specs.Prelude.{if◌then◌else◌, nat_lt, filter, unwrap_or, ◌++◌, suc, length, take, drop}
 use Rattle.std.specs.List.{list_all, last_or}
 use Rattle.std.specs.Str.{is_utf8}
 use Rattle.vortex_prelude.specs.Chain.{◌>>=◌}
@@ -105,3 +105,9 @@ bits_64 (negsuc n) = 2 ^ 64 - suc n
 -- a signed number is written where it is not 0, as its 64 bits
 abbrev pub signed_field : ℕ → ℤ → List ℕ
 signed_field number z = singular_field number (bits_64 z)
+
+-- a message that is written from its end to its start: what was written since it had so many bytes
+-- is now in a field
+unfoldable pub headed : ℕ → ℕ → List ℕ → List ℕ
+headed number before bytes =
+    bytes_field number (take (length bytes - before) bytes) ++ drop (length bytes - before) bytes

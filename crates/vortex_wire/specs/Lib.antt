@@ -4,3 +4,4 @@ pub mod Field
 pub mod Message
 pub mod Metadata
 pub mod Inside
+pub mod Finds

@@ -1,7 +1,4 @@
-use Rattle.std.proofs.Common.{subst, sym}
-use Rattle.vortex_scalar_value.specs.Value.{ValueTerm, values_from}
-use Rattle.vortex_scalar.specs.inner.Kept.{AreIn}
-use Rattle.vortex_scalar.proofs.Inside.{one_more}
+use Rattle.vortex_scalar.proofs.Listed.{one_more}
 use Rattle.vortex_scalar.proofs.nested.list_value.Goals as goal
 
 pub loop-child-preserved : goal.loop-child-preserved

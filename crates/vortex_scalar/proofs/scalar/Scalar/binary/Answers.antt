@@ -1,4 +1,4 @@
-use Rattle.std.proofs.Common.{refl, subst, sym}
+use Rattle.std.proofs.Common.{refl, subst}
 use Rattle.vortex_terms.specs.Term.{binary}
 use Rattle.vortex_terms.specs.Types.{IsBytes}
 use Rattle.vortex_terms.specs.Row.{bytes_row}

@@ -1,11 +1,11 @@
-use Rattle.std.proofs.Common.{length, ◌∙◌, sym}
-use Rattle.vortex_terms.specs.Term.{Term, fixed_size_list}
+use Rattle.std.proofs.Common.{length, ◌∙◌}
+use Rattle.vortex_terms.specs.Term.{fixed_size_list}
 use Rattle.vortex_terms.specs.Row.{list_row}
 use Rattle.vortex_names.specs.Nullable.{is_nullable}
 use Rattle.vortex_types.specs.DTypes.{term_of}
 use Rattle.vortex_scalar.specs.Made.{rows_inside}
 use Rattle.vortex_scalar.proofs.Rows.{fits_at, made_at}
-use Rattle.vortex_scalar.proofs.Inside.{list_fits, sized_row_of, count_inside}
+use Rattle.vortex_scalar.proofs.Listed.{list_fits, sized_row_of, count_inside}
 use Rattle.vortex_scalar.proofs.scalar.Scalar.fixed_size_list.Goals as goal
 
 pub new-requires-2 : goal.new-requires-2

@@ -2,7 +2,7 @@ use Rattle.std.proofs.Common.{◌∙◌, true}
 use Rattle.vortex_terms.specs.Nullability.{with_nullability}
 use Rattle.vortex_types.specs.DTypes.{term_of}
 use Rattle.vortex_scalar.proofs.Rows.{fits_at, made_at}
-use Rattle.vortex_scalar.proofs.Inside.{fits_nullable, row_nullable}
+use Rattle.vortex_scalar.proofs.Listed.{fits_nullable, row_nullable}
 use Rattle.std.proofs.Common.{ap}
 use Rattle.vortex_scalar.proofs.scalar.Scalar.into_nullable.Goals as goal
 

@@ -4,7 +4,7 @@ use Rattle.vortex_names.specs.Nullable.{is_nullable}
 use Rattle.vortex_types.specs.DTypes.{term_of}
 use Rattle.vortex_scalar.specs.Made.{rows_inside}
 use Rattle.vortex_scalar.proofs.Rows.{fits_at, made_at}
-use Rattle.vortex_scalar.proofs.Inside.{list_fits, list_row_of}
+use Rattle.vortex_scalar.proofs.Listed.{list_fits, list_row_of}
 use Rattle.vortex_scalar.proofs.scalar.Scalar.list.Goals as goal
 
 pub new-requires : goal.new-requires

@@ -3,7 +3,7 @@ use Rattle.vortex_terms.specs.Row.{list_row}
 use Rattle.vortex_types.specs.DTypes.{term_of}
 use Rattle.vortex_scalar.specs.Made.{rows_inside}
 use Rattle.vortex_scalar.proofs.Rows.{fits_at, made_at}
-use Rattle.vortex_scalar.proofs.Inside.{struct_fits, struct_row_of}
+use Rattle.vortex_scalar.proofs.Listed.{struct_fits, struct_row_of}
 use Rattle.vortex_scalar.proofs.scalar.Scalar.struct_.Goals as goal
 
 pub new-requires : goal.new-requires

@@ -1,4 +1,4 @@
-use Rattle.std.proofs.Common.{inr, ap}
+use Rattle.std.proofs.Common.{inr}
 use Rattle.vortex_scalar.proofs.Rows.{no_text}
 use Rattle.vortex_names.specs.Nullable.{is_nullable}
 use Rattle.vortex_scalar.proofs.scalar.Scalar.try_utf8.Goals as goal

@@ -1,11 +1,11 @@
 -- The rows of values inside a list.
-use Rattle.std.proofs.Common.{◌≡◌, ℕ, suc, List, [], ◌∷◌, ◌++◌, map, length, Bool, true, Option, Some, None, refl, sym, ap, subst, ◌∙◌, IsTrue}
+use Rattle.std.proofs.Common.{◌≡◌, ℕ, suc, List, [], ◌∷◌, ◌++◌, map, length, Bool, true, Some, refl, sym, ap, subst, ◌∙◌, IsTrue}
 use Rattle.std.specs.List.{All}
 use Rattle.std.specs.Option.{option_map}
 use Rattle.std.proofs.lemmas.List.Elements.{All-head, All-tail}
 use Rattle.vortex_terms.specs.Term.{Term, null, boolean, primitive, decimal, utf8, binary, structure, list, extension, fixed_size_list, Fields, no_fields, field}
 use Rattle.vortex_terms.specs.Types.{types_of}
-use Rattle.vortex_terms.specs.Row.{Row, Rows, null_row, truth_row, whole_row, bytes_row, list_row, no_rows, row, row_count, AllRows}
+use Rattle.vortex_terms.specs.Row.{Row, null_row, truth_row, whole_row, bytes_row, list_row, row_count, AllRows}
 use Rattle.vortex_terms.specs.Fits.{Fits, FitsFields}
 use Rattle.vortex_terms.specs.Nullability.{with_nullability}
 use Rattle.vortex_types.specs.Accessors.{fields_of}
@@ -36,9 +36,10 @@ every_row t (s ∷ ss) no_values types are = absurd are
 
 every_fits : (t : Term) (ss : List ScalarTerm) (vs : ValueTerms) → All (λ s. s.dtype ≡ t) ss → AreIn ss vs → AllRows (Fits t) (rows_inside ss)
 every_fits t [] no_values types are = tt
-every_fits t (s ∷ ss) (value v vs) types are =
-    (subst (λ u. Fits u s.row) (All-head (λ (z : ScalarTerm). z.dtype ≡ t) s ss types) are.1,
-    every_fits t ss vs (All-tail (λ (z : ScalarTerm). z.dtype ≡ t) s ss types) are.2)
+every_fits t (s ∷ ss) (value v vs) types are = (
+  subst (λ u. Fits u s.row) (All-head (λ (z : ScalarTerm). z.dtype ≡ t) s ss types) are.1,
+  every_fits t ss vs (All-tail (λ (z : ScalarTerm). z.dtype ≡ t) s ss types) are.2,
+)
 every_fits t [] (value v vs) types are = absurd are
 every_fits t (s ∷ ss) no_values types are = absurd are
 

@@ -1,0 +1,4 @@
+//! Conversions between scalars and native values.
+#![tactic(auto)]
+
+pub use vortex_scalar::ScalarError;

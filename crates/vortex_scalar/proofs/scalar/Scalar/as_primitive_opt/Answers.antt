@@ -1,0 +1,12 @@
+use Rattle.std.proofs.Common.{ap, ◌∙◌}
+use Rattle.std.specs.Option.{option_map}
+use Rattle.vortex_types.specs.DTypes.{term_of}
+use Rattle.vortex_types.specs.Predicates.{is_primitive}
+use Rattle.vortex_scalar.specs.Views.{primitive_term}
+use Rattle.vortex_scalar.proofs.Viewing.{viewed}
+use Rattle.vortex_scalar.proofs.scalar.Scalar.as_primitive_opt.Goals as goal
+
+pub returns : goal.returns
+returns c =
+    ap (option_map primitive_term) c.ok.ensures.value
+    ∙ viewed primitive_term is_primitive (term_of c.dtype.result.now) c.value.result.now c.args.self.now c.try_new.result c.dtype.ensures c.value.ensures c.law.ensures.fits c.try_new.ensures
