@@ -22,5 +22,5 @@ pub use row_laws::rows_ignore_nullability;
 pub use scalar::Scalar;
 pub use scalar_type::ScalarType;
 pub use schema::scalar_schema;
-pub use views::{BoolScalar, DecimalScalar, ListScalar, PrimitiveScalar};
+pub use views::{BoolScalar, DecimalScalar, ExtScalar, ListScalar, PrimitiveScalar, StructScalar};
 pub use vortex_scalar_value::{ScalarError, ScalarValue, ValueRef};
