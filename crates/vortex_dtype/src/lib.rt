@@ -1,6 +1,7 @@
 //! Types, and what leads into them: paths, masks, and views of types that are left in buffers.
 #![tactic(auto)]
 
+mod from_proto;
 mod masks;
 mod path_set;
 mod paths;
