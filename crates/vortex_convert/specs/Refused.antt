@@ -3,7 +3,6 @@ use Rattle.std.specs.Prelude.{◌≡◌, Bool, true, false, Result, Ok, Err, if�
 use Rattle.std.proofs.Common.{refl}
 use Rattle.vortex_terms.specs.Term.{WholeKind, Term, null, boolean, primitive, decimal, utf8, binary, structure, list, extension, fixed_size_list}
 use Rattle.vortex_terms.specs.Row.{Row, truth_row, whole_row, bytes_row}
-use Rattle.vortex_terms.specs.Equality.{kind_eq}
 use Rattle.vortex_types.specs.Predicates.{is_boolean, is_utf8, is_binary}
 use Rattle.vortex_scalar_value.specs.declared.error.ScalarError.{ScalarError}
 use Rattle.vortex_scalar_value.specs.declared.error.ScalarError.TheVariants as error

@@ -10,7 +10,7 @@ ghost use Rattle.vortex_convert.specs.Conversions.{is_whole, whole_in, row_in};
 ghost use Rattle.vortex_convert.specs.Refused.{whole_refused};
 
 use crate::native_scalar::NativeScalar;
-use crate::numbers::{to_i16, to_i32, to_i64, to_i8, to_u16, to_u32, to_u64, to_u8};
+use crate::numbers::{to_i8, to_i16, to_i32, to_i64, to_u8, to_u16, to_u32, to_u64};
 use crate::scalars::from_native;
 use std::alloc::Global;
 use vortex_scalar::{Scalar, ScalarError};

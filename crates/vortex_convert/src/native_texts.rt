@@ -1,7 +1,6 @@
 //! Truth values, texts and bytes as rows.
 
 ghost use Rattle.std.specs.Prelude.{◌≡◌, false};
-ghost use Rattle.std.specs.Str.{IsUtf8};
 ghost use Rattle.std.specs.String.{string_bytes};
 ghost use Rattle.vortex_terms.specs.Term.{utf8};
 ghost use Rattle.vortex_terms.specs.Row.{truth_row, bytes_row};
@@ -24,15 +23,10 @@ use vortex_types::DType;
 fn shared_text_scalar(text: BufferString) -> Scalar
     ensures { result ≡ typed (utf8 false) (bytes_row text.bytes) }
 {
-    text_law(text.as_str());
+    let _ = text.as_str();
     let value = ScalarValue::from_buffer_string(text);
     Scalar::new(DType::Utf8(Nullability::NonNullable), value)
 }
-
-/// A text is UTF-8. It does nothing when the program runs.
-fn text_law(text: &str)
-    ensures { IsUtf8 text.now }
-{}
 
 impl NativeScalar for bool {
     ghost row_of = { truth_row };
