@@ -1,6 +1,7 @@
 //! Conversions between scalars and native values.
 #![tactic(auto)]
 
+mod decimals;
 mod lists;
 mod native_numbers;
 mod native_option;
