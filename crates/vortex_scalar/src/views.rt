@@ -12,11 +12,11 @@ mod primitive;
 mod struct_;
 mod truths;
 
-pub use extension::ExtScalar;
-pub use list::ListScalar;
 pub use self::bool::BoolScalar;
 pub use self::decimal::DecimalScalar;
 pub use self::primitive::PrimitiveScalar;
+pub use extension::ExtScalar;
+pub use list::ListScalar;
 pub use struct_::StructScalar;
 
 #[cfg(test)]
