@@ -1,6 +1,7 @@
 //! Types, and what leads into them: paths, masks, and views of types that are left in buffers.
 #![tactic(auto)]
 
+mod from_proto;
 mod masks;
 mod path_set;
 mod paths;
@@ -23,5 +24,9 @@ pub use vortex_types::{
     written_types_are_read,
 };
 
+#[cfg(test)]
+mod from_proto_tests;
+#[cfg(test)]
+mod proto_tests;
 #[cfg(test)]
 mod tests;

@@ -108,8 +108,8 @@ decimal_found b body n read node t kind e h =
     let p = bound (singular_u32 DECIMAL_PRECISION body) _ node e in
     let s = bound (singular_i32 DECIMAL_SCALE body) _ node p.2 in
     let m = bound (flag DECIMAL_NULLABLE body) _ node s.2 in
-    let g = guarded (is_decimal p.0 s.0) (decimal_node p.0 s.0 m.0) node m.2 in
-    leaf_found b n (decimal p.0 s.0 m.0) t (body, kind, p.1, s.1, m.1) ((is_decimal-Decides p.0 s.0).0 g.0) refl (made read (decimal_node p.0 s.0 m.0) node t (ap (λ (x : Node). Some x) g.1) h)
+    let g = guarded (is_decimal p.0 s.0) (decimal p.0 s.0 m.0) t (made read (decimal_node p.0 s.0 m.0) node t m.2 h) in
+    leaf_found b n (decimal p.0 s.0 m.0) t (body, kind, p.1, s.1, m.1) ((is_decimal-Decides p.0 s.0).0 g.0) refl (ap (λ (u : Term). Some u) g.1)
 
 -- ---- types around one part
 

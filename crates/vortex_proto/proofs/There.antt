@@ -14,7 +14,7 @@ use Rattle.vortex_terms.specs.FieldLaws.{fields_from-parts, length-names_of, len
 use Rattle.vortex_terms.specs.Types.{Legal, LegalFields, levels, fields_levels, names_of, types_of, is_extension}
 use Rattle.vortex_proto.specs.declared.schema.TheConstants.{PLAIN_NULLABLE, PRIMITIVE_PTYPE, PRIMITIVE_NULLABLE, DECIMAL_PRECISION, DECIMAL_SCALE, DECIMAL_NULLABLE, STRUCT_NAMES, STRUCT_DTYPES, STRUCT_NULLABLE, LIST_ELEMENT, LIST_NULLABLE, EXTENSION_ID, EXTENSION_STORAGE, EXTENSION_METADATA, FIXED_ELEMENT, FIXED_SIZE, FIXED_NULLABLE}
 use Rattle.vortex_proto.specs.TypeMessage.{kind_and_body, IsTypeMessage, AreTypeMessages}
-use Rattle.vortex_proto.specs.Reading.{Node, null_node, boolean_node, primitive_node, decimal_node, utf8_node, binary_node, structure_node, list_node, extension_node, fixed_size_list_node, ptype_from, null_in, boolean_in, primitive_in, decimal_in, utf8_in, binary_in, structure_in, list_in, extension_in, fixed_size_list_in, body_in, node_in, types_in, structure_of, list_of, extension_of, fixed_size_list_of, term_in, type_in}
+use Rattle.vortex_proto.specs.Reading.{Node, null_node, boolean_node, primitive_node, decimal_node, utf8_node, binary_node, structure_node, list_node, extension_node, fixed_size_list_node, ptype_from, null_in, boolean_in, primitive_in, decimal_in, utf8_in, binary_in, structure_in, list_in, extension_in, fixed_size_list_in, body_in, node_in, types_in, decimal_of, structure_of, list_of, extension_of, fixed_size_list_of, term_in, type_in}
 
 one_level : (n : ℕ) (b : List ℕ) → 1 ≤ n → type_in n b ≡ (node_in b >>= term_in (type_in (n - 1)))
 unfolding type_in
@@ -60,9 +60,12 @@ primitive_there : (body : List ℕ) (k : WholeKind) (n : Bool) → singular_u32 
 unfolding body_in primitive_in
 primitive_there body k n e h = rw e (rw (ptype_again k) (rw h refl))
 
-decimal_there : (body : List ℕ) (p : ℕ) (s : ℤ) (n : Bool) → singular_u32 DECIMAL_PRECISION body ≡ Some p → singular_i32 DECIMAL_SCALE body ≡ Some s → flag DECIMAL_NULLABLE body ≡ Some n → is_decimal p s ≡ true → body_in 4 body ≡ Some (decimal_node p s n)
+decimal_there : (body : List ℕ) (p : ℕ) (s : ℤ) (n : Bool) → singular_u32 DECIMAL_PRECISION body ≡ Some p → singular_i32 DECIMAL_SCALE body ≡ Some s → flag DECIMAL_NULLABLE body ≡ Some n → body_in 4 body ≡ Some (decimal_node p s n)
 unfolding body_in decimal_in
-decimal_there body p s n e h g legal = rw e (rw h (rw g (rw legal refl)))
+decimal_there body p s n e h g = rw e (rw h (rw g refl))
+
+decimal_made : (p : ℕ) (s : ℤ) (n : Bool) → is_decimal p s ≡ true → decimal_of p s n ≡ Some (decimal p s n)
+decimal_made p s n legal = rw legal refl
 
 structure_there : (body : List ℕ) (names parts : List (List ℕ)) (n : Bool) → texts STRUCT_NAMES body ≡ Some names → bytes_fields STRUCT_DTYPES body ≡ Some parts → flag STRUCT_NULLABLE body ≡ Some n → body_in 7 body ≡ Some (structure_node names parts n)
 unfolding body_in structure_in
@@ -115,7 +118,7 @@ mutual
   type_there null b n s legal lv = by_node n 1 b s.0 null_node null lv s.1 (null_there s.0 s.2) refl
   type_there (boolean f) b n s legal lv = by_node n 2 b s.0 (boolean_node f) (boolean f) lv s.1 (boolean_there s.0 f s.2) refl
   type_there (primitive k f) b n s legal lv = by_node n 3 b s.0 (primitive_node k f) (primitive k f) lv s.1 (primitive_there s.0 k f s.2 s.3) refl
-  type_there (decimal p z f) b n s legal lv = by_node n 4 b s.0 (decimal_node p z f) (decimal p z f) lv s.1 (decimal_there s.0 p z f s.2 s.3 s.4 ((is_decimal-Decides p z).1 legal)) refl
+  type_there (decimal p z f) b n s legal lv = by_node n 4 b s.0 (decimal_node p z f) (decimal p z f) lv s.1 (decimal_there s.0 p z f s.2 s.3 s.4) (decimal_made p z f ((is_decimal-Decides p z).1 legal))
   type_there (utf8 f) b n s legal lv = by_node n 5 b s.0 (utf8_node f) (utf8 f) lv s.1 (utf8_there s.0 f s.2) refl
   type_there (binary f) b n s legal lv = by_node n 6 b s.0 (binary_node f) (binary f) lv s.1 (binary_there s.0 f s.2) refl
   type_there (structure fs f) b n s legal lv =

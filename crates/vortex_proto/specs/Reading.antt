@@ -57,7 +57,7 @@ decimal_in body = do
   p ← singular_u32 DECIMAL_PRECISION body
   s ← singular_i32 DECIMAL_SCALE body
   n ← flag DECIMAL_NULLABLE body
-  if is_decimal p s then Some (decimal_node p s n) else None
+  Some (decimal_node p s n)
 
 unfoldable pub utf8_in : List ℕ → Option Node
 utf8_in body = do
@@ -119,6 +119,10 @@ types_in read (part ∷ parts) = do
   ts ← types_in read parts
   Some (t ∷ ts)
 
+-- A decimal has a precision and a scale that go together.
+abbrev pub decimal_of : ℕ → ℤ → Bool → Option Term
+decimal_of p s n = if is_decimal p s then Some (decimal p s n) else None
+
 -- A struct has as many types as names.
 unfoldable pub structure_of : (List ℕ → Option Term) → List (List ℕ) → List (List ℕ) → Bool → Option Term
 structure_of read names parts n = do
@@ -145,7 +149,7 @@ abbrev pub term_in : (List ℕ → Option Term) → Node → Option Term
 term_in read null_node = Some null
 term_in read (boolean_node n) = Some (boolean n)
 term_in read (primitive_node k n) = Some (primitive k n)
-term_in read (decimal_node p s n) = Some (decimal p s n)
+term_in read (decimal_node p s n) = decimal_of p s n
 term_in read (utf8_node n) = Some (utf8 n)
 term_in read (binary_node n) = Some (binary n)
 term_in read (structure_node names parts n) = structure_of read names parts n

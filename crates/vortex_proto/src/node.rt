@@ -3,7 +3,6 @@
 ghost use Rattle.std.specs.Prelude.{◌≡◌, Some};
 ghost use Rattle.std.specs.Option.{option_map};
 ghost use Rattle.vortex_number.specs.WholeKind.{whole_kind};
-ghost use Rattle.vortex_terms.specs.Tests.{is_decimal};
 ghost use Rattle.vortex_wire.specs.Finds.{Finds, FindsInMemory};
 ghost use Rattle.vortex_proto.specs.Reading.{binary_in, body_in, boolean_in, decimal_in};
 ghost use Rattle.vortex_proto.specs.Reading.{extension_in, fixed_size_list_in, list_in, node_in};
@@ -20,15 +19,15 @@ use vortex_wire::{
     optional_bytes, singular_i32, singular_text, singular_u32, texts,
 };
 
-/// A type as a message, whose parts are left where they stand. A `bool` says whether a row may be
-/// null.
+/// A type as a message, whose parts are left where they stand and not looked into. A `bool` says
+/// whether a row may be null.
 #[derive(Drop)]
 pub enum TypeMessage<'a> {
     Null,
     Bool(bool),
     Primitive(PType, bool),
-    /// Precision and scale.
-    Decimal(u8, i8, bool),
+    /// Precision and scale, which may not go together.
+    Decimal(u32, i32, bool),
     Utf8(bool),
     Binary(bool),
     /// Names, and the messages of the types.
@@ -129,13 +128,6 @@ fn read_primitive(body: &[u8]) -> Result<TypeMessage<'_>, WireError>
     Ok(TypeMessage::Primitive(ptype, nullable))
 }
 
-/// Whether there are decimals of this precision and scale.
-fn is_decimal(precision: u32, scale: i32) -> bool
-    ensures { result ≡ is_decimal precision scale }
-{
-    1 <= precision && precision <= 76 && -128 <= scale && i64::from(scale) <= i64::from(precision)
-}
-
 #[tactic(auto, unfolding(crate::specs::Reading::decimal_in))]
 fn read_decimal(body: &[u8]) -> Result<TypeMessage<'_>, WireError>
     ensures { Finds node_of result (decimal_in body.now) }
@@ -143,10 +135,7 @@ fn read_decimal(body: &[u8]) -> Result<TypeMessage<'_>, WireError>
     let precision = singular_u32(body, DECIMAL_PRECISION)?;
     let scale = singular_i32(body, DECIMAL_SCALE)?;
     let nullable = flag(body, DECIMAL_NULLABLE)?;
-    if !is_decimal(precision, scale) {
-        return Err(WireError::Malformed);
-    }
-    Ok(TypeMessage::Decimal(precision as u8, scale as i8, nullable))
+    Ok(TypeMessage::Decimal(precision, scale, nullable))
 }
 
 #[tactic(auto, unfolding(crate::specs::Reading::utf8_in))]

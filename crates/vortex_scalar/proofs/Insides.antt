@@ -176,12 +176,6 @@ fields_end no_fields (suc i) e = refl
 fields_end (field x t fs) zero e = absurd (omega arith)
 fields_end (field x t fs) (suc i) e = fields_end fs i (omega arith)
 
-pub rows_end : (c : InTerm) (xs : List ValueTerm) (i : ℕ) → in_takes c i ≡ true → length xs ≤ i → in_rows (in_drop i c) (values_from (drop i xs)) ≡ Some no_rows
-rows_end (every t) xs i e h = ap (λ ws. in_rows (every t) (values_from ws)) (drop_all i xs h)
-rows_end (each fs) xs i e h =
-    ap (λ ws. in_rows (each (fields_drop i fs)) (values_from ws)) (drop_all i xs h)
-    ∙ ap (λ gs. in_rows (each gs) no_values) (fields_end fs i (same_counts (field_count fs) i e))
-
 pub fit_end : (c : InTerm) (xs : List ValueTerm) (i : ℕ) → in_takes c i ≡ true → length xs ≤ i → fit_from c xs i ≡ true
 fit_end (every t) xs i e h = ap (λ ws. all_fit (every t) (values_from ws)) (drop_all i xs h)
 fit_end (each fs) xs i e h =

@@ -1,17 +1,18 @@
 -- What stands inside a list or a struct.
-use Rattle.std.proofs.Common.{◌≡◌, ℕ, zero, suc, List, [], ◌∷◌, length, Bool, ℤ, Option, Some, None, refl, sym, ap, subst, ◌∙◌, arith}
+use Rattle.std.proofs.Common.{◌≡◌, ℕ, zero, suc, ◌<◌, ◌-◌, length-append, List, [], ◌∷◌, ◌++◌, map, length, Bool, ℤ, Option, Some, None, refl, sym, ap, subst, ◌∙◌, arith}
 use Rattle.std.specs.Prelude.{slice_get, unwrap_or}
 use Rattle.std.specs.Option.{IsSome, option_map, option_map_or, option_and_then}
 use Rattle.vortex_terms.specs.Term.{Term, null, boolean, primitive, decimal, utf8, binary, structure, list, extension, fixed_size_list, Fields, no_fields, field}
-use Rattle.vortex_terms.specs.Types.{field_at}
-use Rattle.vortex_terms.specs.Row.{Row, Rows, null_row, truth_row, whole_row, bytes_row, list_row, no_rows, row, row_count, row_at, AllRows}
+use Rattle.vortex_terms.specs.Types.{storage_of, field_at}
+use Rattle.vortex_types.specs.ExtTerm.{ExtTerm, ext_type}
+use Rattle.vortex_terms.specs.Row.{row_list, Row, Rows, null_row, truth_row, whole_row, bytes_row, list_row, no_rows, row, row_count, row_at, AllRows}
 use Rattle.vortex_terms.specs.Fits.{Fits}
 use Rattle.vortex_terms.specs.RowListLaws.{FitsFields-places}
 use Rattle.vortex_scalar_value.specs.Value.{ValueTerm, null_value, truth_value, whole_value, decimal_value, bytes_value, text_value, list_value, ValueTerms, no_values, value, values_from, value_list}
 use Rattle.vortex_scalar.specs.RowOf.{row_of, fitting_row, number_of_bytes, field_rows, rows_by, row_before}
 use Rattle.vortex_scalar.specs.ScalarTerm.{ScalarTerm}
 use Rattle.vortex_scalar.specs.Made.{typed, scalar_of}
-use Rattle.vortex_scalar.specs.LargeViews.{rows_within, count_within, part_type, part_scalar}
+use Rattle.vortex_scalar.specs.LargeViews.{storage_scalar, rows_within, count_within, part_type, part_scalar, typed_rows, field_scalars, part_scalars}
 use Rattle.vortex_scalar.specs.inner.Parts.{values_within, value_within}
 use Rattle.vortex_scalar.proofs.Rows.{is_made, makes, fitted}
 
@@ -26,10 +27,10 @@ listed vs v e = subst (λ w. Some vs ≡ values_within w) e (ap Some (sym (value
 
 -- ---- how many there are
 
-some_same : {A : Type 0} (x y : A) → Some x ≡ Some y → x ≡ y
+pub some_same : {A : Type 0} (x y : A) → Some x ≡ Some y → x ≡ y
 some_same x y e = cc
 
-never_some : {A : Type 0} (x : A) → None ≡ Some x → ⊥
+pub never_some : {A : Type 0} (x : A) → None ≡ Some x → ⊥
 never_some x e = cc
 
 count_list : (f : ValueTerm → Option Row) (vs : ValueTerms) (rs : Rows) → rows_by f vs ≡ Some rs → row_count rs ≡ length (value_list vs)
@@ -146,7 +147,7 @@ no_type t v s i e none = subst (λ (z : ScalarTerm). None ≡ part_scalar z i) e
     by (bytes_row bs) = refl
 
 -- the value has a row, which stands there
-record HasRow (f : ValueTerm → Option Row) (w : ValueTerm) (o : Option Row) : Type 0 where
+pub record HasRow (f : ValueTerm → Option Row) (w : ValueTerm) (o : Option Row) : Type 0 where
   pub the_row : Row
   pub of_value : f w ≡ Some the_row
   pub stands : o ≡ Some the_row
@@ -166,7 +167,7 @@ at_list f (value v vs) rs i w e g = by (f v) (rows_by f vs) refl (λ ss j. at_li
         (record { the_row = r; of_value = ap f (sym (some_same _ _ g)) ∙ first; stands = refl })
     by (Some r) (Some ss) first rest (suc j) e g = subst (λ z. HasRow f w (row_at z (suc j))) (some_same _ _ e) (rest ss j refl g)
 
-at_field : (fs : Fields) (vs : ValueTerms) (rs : Rows) (i : ℕ) (w : ValueTerm) (u : Term)
+pub at_field : (fs : Fields) (vs : ValueTerms) (rs : Rows) (i : ℕ) (w : ValueTerm) (u : Term)
     → field_rows fs vs ≡ Some rs → slice_get (value_list vs) i ≡ Some w → field_at fs i ≡ Some u → HasRow (row_of u) w (row_at rs i)
 at_field no_fields vs rs i w u e g h = absurd (never_some u h)
 at_field (field x t fs) no_values rs i w u e g h = absurd (never_some w g)
@@ -271,6 +272,115 @@ part_stands t v s i w x u y h e here kind same_value same_type =
     let moved : Some (scalar_of y x) ≡ Some (scalar_of u w) = λ k. Some (scalar_of (same_type k) (same_value k)) in
     moved ∙ known ∙ ap (λ z. part_scalar z i) e
 
+-- ---- all parts
+
+fields_at : (fs : Fields) (rs : Rows) (i : ℕ) → option_and_then (λ u. option_and_then (λ q. Some (typed u q)) (row_at rs i)) (field_at fs i) ≡ slice_get (field_scalars fs rs) i
+fields_at no_fields rs i = refl
+fields_at (field x t fs) no_rows zero = refl
+fields_at (field x t fs) no_rows (suc i) = by (field_at fs i)
+  where
+    by : (o : Option Term) → option_and_then (λ u. option_and_then (λ q. Some (typed u q)) None) o ≡ None
+    by None = refl
+    by (Some u) = refl
+fields_at (field x t fs) (row r rs) zero = refl
+fields_at (field x t fs) (row r rs) (suc i) = fields_at fs rs i
+
+elements_at : (t : Term) (rs : Rows) (i : ℕ) → option_and_then (λ q. Some (typed t q)) (row_at rs i) ≡ slice_get (map (typed t) (row_list rs)) i
+elements_at t no_rows i = refl
+elements_at t (row r rs) zero = refl
+elements_at t (row r rs) (suc i) = elements_at t rs i
+
+typed_at : (t : Term) (rs : Rows) (i : ℕ) → option_and_then (λ u. option_and_then (λ q. Some (typed u q)) (row_at rs i)) (part_type t i) ≡ slice_get (typed_rows t rs) i
+typed_at (structure fs n) rs i = fields_at fs rs i
+typed_at (list t n) rs i = elements_at t rs i
+typed_at (fixed_size_list t k n) rs i = elements_at t rs i
+typed_at _ rs i = refl
+
+-- the parts, and none of null
+abbrev pub all_parts : ScalarTerm → List ScalarTerm
+all_parts s = unwrap_or (part_scalars s) []
+
+parts_at : (s : ScalarTerm) (i : ℕ) → part_scalar s i ≡ slice_get (all_parts s) i
+parts_at s i = by s.row
+  where
+    by : (r : Row) → part_scalar (typed s.dtype r) i ≡ slice_get (all_parts (typed s.dtype r)) i
+    by (list_row rs) = typed_at s.dtype rs i
+    by null_row = refl
+    by (truth_row b) = refl
+    by (whole_row z) = refl
+    by (bytes_row bs) = refl
+
+-- the first list begins the second
+abbrev pub Begins : List ScalarTerm → List ScalarTerm → Type 0
+Begins [] ys = Unit {0}
+Begins (x ∷ xs) [] = ⊥
+Begins (x ∷ xs) (y ∷ ys) = (x ≡ y) × Begins xs ys
+
+begins_more : (xs ys : List ScalarTerm) (x : ScalarTerm) → Begins xs ys → slice_get ys (length xs) ≡ Some x → Begins (xs ++ x ∷ []) ys
+begins_more [] [] x b e = absurd (never_some x e)
+begins_more [] (y ∷ ys) x b e = (sym (some_same _ _ e), tt)
+begins_more (z ∷ xs) [] x b e = absurd b
+begins_more (z ∷ xs) (y ∷ ys) x b e = (b.0, begins_more xs ys x b.1 e)
+
+begins_all : (xs ys : List ScalarTerm) → Begins xs ys → slice_get ys (length xs) ≡ None → xs ≡ ys
+begins_all [] [] b e = refl
+begins_all [] (y ∷ ys) b e = absurd (never_some y (sym e))
+begins_all (z ∷ xs) [] b e = absurd b
+begins_all (z ∷ xs) (y ∷ ys) b e = λ k. b.0 k ∷ begins_all xs ys b.1 e k
+
+begins_fewer : (xs ys : List ScalarTerm) (x : ScalarTerm) → Begins xs ys → slice_get ys (length xs) ≡ Some x → length xs < length ys
+begins_fewer [] [] x b e = absurd (never_some x e)
+begins_fewer [] (y ∷ ys) x b e = omega arith
+begins_fewer (z ∷ xs) [] x b e = absurd b
+begins_fewer (z ∷ xs) (y ∷ ys) x b e = let rest = begins_fewer xs ys x b.1 e in omega (arith, rest)
+
+-- a part more, and that there are more to come
+pub part_more : (s : ScalarTerm) (xs : List ScalarTerm) (x : ScalarTerm) (n : ℕ) → n ≡ length xs → Begins xs (all_parts s) → Some x ≡ part_scalar s n
+    → Begins (xs ++ x ∷ []) (all_parts s)
+part_more s xs x n same b e =
+    let next : slice_get (all_parts s) (length xs) ≡ Some x = ap (slice_get (all_parts s)) (sym same) ∙ sym (parts_at s n) ∙ sym e in
+    begins_more xs (all_parts s) x b next
+
+pub part_smaller : (s : ScalarTerm) (xs : List ScalarTerm) (x : ScalarTerm) (n : ℕ) → n ≡ length xs → Begins xs (all_parts s) → Some x ≡ part_scalar s n
+    → length (all_parts s) - length (xs ++ x ∷ []) < length (all_parts s) - length xs
+part_smaller s xs x n same b e =
+    let next : slice_get (all_parts s) (length xs) ≡ Some x = ap (slice_get (all_parts s)) (sym same) ∙ sym (parts_at s n) ∙ sym e in
+    let fewer = begins_fewer xs (all_parts s) x b next in
+    omega (arith, fewer, length-append xs (x ∷ []))
+
+some_parts : (o : Option (List ValueTerm)) (vs : List ValueTerm) (s : ScalarTerm) → SameCount o (rows_within s.row) → Some vs ≡ o → Some (all_parts s) ≡ part_scalars s
+some_parts None vs s same e = absurd (never_some vs (sym e))
+some_parts (Some ws) vs s same e = by s.row same
+  where
+    by : (r : Row) → SameCount (Some ws) (rows_within r) → Some (all_parts (typed s.dtype r)) ≡ part_scalars (typed s.dtype r)
+    by (list_row rs) same = refl
+    by null_row same = absurd same
+    by (truth_row b) same = absurd same
+    by (whole_row z) same = absurd same
+    by (bytes_row bs) same = absurd same
+
+-- all of them, where there are values inside
+pub part_all : (t : Term) (v : ValueTerm) (s : ScalarTerm) (vs : List ValueTerm) (xs : List ScalarTerm) (n : ℕ) → IsSome (fitting_row t v) → scalar_of t v ≡ s
+    → Some vs ≡ values_within v → n ≡ length xs → Begins xs (all_parts s) → None ≡ part_scalar s n → Some xs ≡ part_scalars s
+part_all t v s vs xs n h e inside same b none =
+    let end : slice_get (all_parts s) (length xs) ≡ None = ap (slice_get (all_parts s)) (sym same) ∙ sym (parts_at s n) ∙ sym none in
+    ap Some (begins_all xs (all_parts s) b end) ∙ some_parts (values_within v) vs s (same_count t v s h e) inside
+
+no_parts : (o : Option (List ValueTerm)) (s : ScalarTerm) → SameCount o (rows_within s.row) → None ≡ o → None ≡ part_scalars s
+no_parts (Some ws) s same e = absurd (never_some ws e)
+no_parts None s same e = by s.row same
+  where
+    by : (r : Row) → SameCount None (rows_within r) → None ≡ part_scalars (typed s.dtype r)
+    by (list_row rs) same = absurd same
+    by null_row same = refl
+    by (truth_row b) same = refl
+    by (whole_row z) same = refl
+    by (bytes_row bs) same = refl
+
+-- and none, where there are none
+pub part_none : (t : Term) (v : ValueTerm) (s : ScalarTerm) → IsSome (fitting_row t v) → scalar_of t v ≡ s → None ≡ values_within v → None ≡ part_scalars s
+part_none t v s h e none = no_parts (values_within v) s (same_count t v s h e) none
+
 -- ---- a scalar, lent
 
 pub lent_fits : (d : Term) (v : ValueTerm) (s : ScalarTerm) → d ≡ s.dtype → row_of s.dtype v ≡ Some s.row → Fits s.dtype s.row → IsSome (fitting_row d v)
@@ -278,3 +388,38 @@ lent_fits d v s e of_value fits = subst (λ z. IsSome (fitting_row z v)) (sym e)
 
 pub lent_same : (d : Term) (v : ValueTerm) (s : ScalarTerm) → d ≡ s.dtype → row_of s.dtype v ≡ Some s.row → Fits s.dtype s.row → scalar_of d v ≡ s
 lent_same d v s e of_value fits = ap (λ z. scalar_of z v) e ∙ makes s.dtype v s.row of_value fits
+
+-- ---- the storage of an extension
+
+storage_row : (e : ExtTerm) (d : Term) (v w : ValueTerm) (s : ScalarTerm) → ext_type e ≡ s.dtype → d ≡ e.storage → w ≡ v → row_of s.dtype v ≡ Some s.row → row_of d w ≡ Some s.row
+storage_row e d v w s ext same_type same_value of_value =
+    let stored : row_of d w ≡ row_of (ext_type e) v = λ k. row_of (same_type k) (same_value k) in
+    stored ∙ ap (λ t. row_of t v) ext ∙ of_value
+
+storage_kept : (e : ExtTerm) (d : Term) (s : ScalarTerm) → ext_type e ≡ s.dtype → d ≡ e.storage → Fits s.dtype s.row → Fits d s.row
+storage_kept e d s ext same_type fits =
+    let stored : Fits (ext_type e) s.row = subst (λ z. Fits z s.row) (sym ext) fits in
+    subst (λ z. Fits z s.row) (sym same_type) stored
+
+pub storage_fits : (e : ExtTerm) (d : Term) (v w : ValueTerm) (s : ScalarTerm) → ext_type e ≡ s.dtype → d ≡ e.storage → w ≡ v → row_of s.dtype v ≡ Some s.row
+    → Fits s.dtype s.row → IsSome (fitting_row d w)
+storage_fits e d v w s ext same_type same_value of_value fits =
+    is_made d w s.row (storage_row e d v w s ext same_type same_value of_value) (storage_kept e d s ext same_type fits)
+
+pub storage_same : (e : ExtTerm) (d : Term) (v w : ValueTerm) (s : ScalarTerm) → ext_type e ≡ s.dtype → d ≡ e.storage → w ≡ v → row_of s.dtype v ≡ Some s.row
+    → Fits s.dtype s.row → scalar_of d w ≡ storage_scalar s
+storage_same e d v w s ext same_type same_value of_value fits =
+    let of_ext : storage_of (ext_type e) ≡ storage_of s.dtype = ap storage_of ext in
+    makes d w s.row (storage_row e d v w s ext same_type same_value of_value) (storage_kept e d s ext same_type fits)
+    ∙ ap (λ z. typed z s.row) (same_type ∙ of_ext)
+
+-- what is known of one scalar is known of an equal one
+pub row_moved : (f s : ScalarTerm) (v : ValueTerm) → f ≡ s → row_of f.dtype v ≡ Some f.row → row_of s.dtype v ≡ Some s.row
+row_moved f s v e h = subst (λ (z : ScalarTerm). row_of z.dtype v ≡ Some z.row) e h
+
+pub fits_moved : (f s : ScalarTerm) → f ≡ s → Fits f.dtype f.row → Fits s.dtype s.row
+fits_moved f s e h = subst (λ (z : ScalarTerm). Fits z.dtype z.row) e h
+
+pub no_more : {A : Type 0} (o : Option A) → ((x : A) → o ≡ Some x → ⊥) → None ≡ o
+no_more None h = refl
+no_more (Some x) h = absurd (h x refl)

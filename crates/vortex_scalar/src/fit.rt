@@ -11,7 +11,7 @@ ghost use Rattle.vortex_scalar.specs.RowOf.{fitting_row};
 ghost use Rattle.vortex_scalar.specs.inner.Inside.{inside_term, in_fitting, in_rows};
 
 use crate::inside::{Inside, value_at};
-use crate::leaf::{is_binary, is_of_kind, is_text, is_wide, number_of_bytes};
+use crate::leaf::{is_binary, is_of_kind, is_str, is_text, is_wide, number_of_bytes};
 use vortex_names::{DecimalDType, Nullability};
 use vortex_scalar_value::{ScalarValue, ValueRef};
 use vortex_types::{Shape, TypeRef};
@@ -115,7 +115,7 @@ fn fits_utf8(n: Nullability, value: &ScalarValue) -> bool
     match value.value_ref() {
         ValueRef::Null => bool::from(n),
         ValueRef::Buffer(bytes) => is_text(bytes.as_slice()),
-        ValueRef::BufferString(text) => is_text(text.as_str().as_bytes()),
+        ValueRef::BufferString(text) => is_str(text.as_str()),
         _ => false,
     }
 }

@@ -52,6 +52,14 @@ pub(crate) fn is_text(bytes: &[u8]) -> bool
     }
 }
 
+/// Whether the text is UTF-8, as each is.
+pub(crate) fn is_str(text: &str) -> bool
+    ensures { result ≡ is_utf8 text.now }
+{
+    let _ = text.len();
+    true
+}
+
 /// Whether the bytes are bytes, as each is.
 pub(crate) fn is_binary(bytes: &[u8]) -> bool
     ensures { result ≡ are_bytes bytes.now }

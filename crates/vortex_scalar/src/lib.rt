@@ -9,14 +9,18 @@ mod inside;
 mod leaf;
 mod nested;
 mod order;
+mod row_laws;
 mod row_ref;
 mod scalar;
 mod scalar_type;
 mod schema;
+#[cfg(test)]
+mod tests;
 mod views;
 
+pub use row_laws::rows_ignore_nullability;
 pub use scalar::Scalar;
 pub use scalar_type::ScalarType;
 pub use schema::scalar_schema;
-pub use views::{BoolScalar, DecimalScalar, ListScalar, PrimitiveScalar};
+pub use views::{BoolScalar, DecimalScalar, ExtScalar, ListScalar, PrimitiveScalar, StructScalar};
 pub use vortex_scalar_value::{ScalarError, ScalarValue, ValueRef};

@@ -35,7 +35,8 @@ impl<'a> RowRef<'a> {
     }
 }
 
-/// The row that the value is under the type. Whether the values inside it have rows is not looked at.
+/// The row that the value is under the type. Whether the values inside it have rows is not
+/// looked at.
 fn try_row_ref<'a>(of: TypeRef<'_>, value: &'a ScalarValue) -> Option<RowRef<'a>>
     ensures { let t = ref_term of.entry in
         option_and_then (held_row t) result ≡ row_of t value.now }

@@ -10,3 +10,4 @@ pub mod Fed
 pub mod Listed
 pub mod ReadTypes
 pub mod Messages
+pub mod ReadMessages

@@ -9,6 +9,7 @@ mod element;
 mod equality;
 mod extension;
 mod field_dtype;
+mod from_proto;
 mod hash;
 mod name_index;
 mod nullability;

@@ -59,7 +59,7 @@ pub fn check_type(bytes: &[u8], place: usize) -> Result<(), DTypeError>
 }
 
 /// Each number is a byte. It does nothing when the program runs.
-fn are_bytes(bytes: &[u8])
+pub(crate) fn are_bytes(bytes: &[u8])
     ensures { IsBytes bytes.now }
 {
     let _ = bytes.len();
@@ -77,7 +77,7 @@ fn read_known(alloc: Global, bytes: &[u8], place: usize) -> Result<DType, DTypeE
 }
 
 /// Whether a row may be null.
-fn nullability(nullable: bool) -> Nullability
+pub(crate) fn nullability(nullable: bool) -> Nullability
     ensures { is_nullable result ≡ nullable }
 {
     if nullable {
@@ -154,7 +154,7 @@ fn struct_fields(
 }
 
 /// The extension type of these parts.
-fn extension_type(
+pub(crate) fn extension_type(
     alloc: Global,
     id: &str,
     storage: DType,

@@ -1,4 +1,5 @@
 use super::*;
+use std::alloc::Global;
 use std::test::*;
 
 #[test]
@@ -221,4 +222,43 @@ fn errors(rt: HostRuntime) -> Result<(), Fail> {
         assert_eq!(rt; format!(in rt.alloc(); "{error}")?.as_str(), text);
     }
     Ok(())
+}
+
+/// A number, and before it a message that holds a text, a flag and a signed number.
+fn from_the_end(alloc: Global) -> Result<Vec<u8>, WireError> {
+    let number = Backward::new(alloc).with_varint_field(2, 300)?;
+    let before = number.len();
+    let signed = number.with_signed_field(5, -2)?;
+    let flag = signed.with_flag_field(4, true)?;
+    let text = flag.with_text_field(1, "a")?;
+    Ok(text.with_header(3, before)?.finish())
+}
+
+/// What is left out, and then bytes and a varint without a key.
+fn left_out(alloc: Global) -> Result<Vec<u8>, WireError> {
+    let text = Backward::new(alloc).with_text_field(1, "")?;
+    let flag = text.with_flag_field(2, false)?;
+    let number = flag.with_singular_field(3, 0)?;
+    let field = number.with_bytes_field(4, &[])?;
+    let bytes = field.with_bytes(&[7, 8])?;
+    Ok(bytes.with_varint(300)?.finish())
+}
+
+/// Whether these are the bytes.
+fn has_bytes(written: Result<Vec<u8>, WireError>, bytes: &[u8]) -> bool {
+    match written {
+        Ok(written) => written.as_slice() == bytes,
+        Err(_) => false,
+    }
+}
+
+#[test]
+fn written_from_the_end(rt: HostRuntime) {
+    let alloc = rt.alloc();
+    let message: [u8; 21] = [
+        0x1A, 0x10, 0x0A, 0x01, 0x61, 0x20, 0x01, 0x28, 0xFE, 0xFF, 0xFF, 0xFF, 0xFF, 0xFF, 0xFF,
+        0xFF, 0xFF, 0x01, 0x10, 0xAC, 0x02,
+    ];
+    assert!(rt; has_bytes(from_the_end(alloc), &message));
+    assert!(rt; has_bytes(left_out(alloc), &[0xAC, 0x02, 7, 8, 0x22, 0x00]));
 }

@@ -101,6 +101,22 @@ impl<'a> Fitting<'a> {
         }
     }
 
+    /// All that stands inside a list or a struct, in order; there is nothing where it is null.
+    pub(crate) fn parts(&self, alloc: Global) -> Result<Option<Vec<Scalar>>, ScalarError>
+        ensures parts { IfOk result (λ o. option_map (λ v. v.items) o ≡ part_scalars self.now) }
+        ensures memory { IsOkUnless result ScalarError.OutOfMemory }
+    {
+        match inside(self.value) {
+            Some(_) => {}
+            None => return Ok(None),
+        }
+        let mut parts = Vec::new(alloc);
+        while let Some(part) = self.part(alloc, parts.len())? {
+            parts.push(part)?;
+        }
+        Ok(Some(parts))
+    }
+
     /// The type is legal, and the row fits it. It does nothing when the program runs.
     pub(crate) fn law(&self)
         ensures legal { Legal self.now.dtype }

@@ -104,4 +104,12 @@ impl<'a> ListScalar<'a> {
     {
         self.fitting.part(alloc, index)
     }
+
+    /// The elements in order; there are none where the list is null.
+    pub fn elements(&self, alloc: Global) -> Result<Option<Vec<Scalar>>, ScalarError>
+        ensures elements { IfOk result (λ o. option_map (λ v. v.items) o ≡ part_scalars self.now) }
+        ensures memory { IsOkUnless result ScalarError.OutOfMemory }
+    {
+        self.fitting.parts(alloc)
+    }
 }

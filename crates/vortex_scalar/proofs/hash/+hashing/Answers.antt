@@ -3,6 +3,7 @@ use Rattle.std.specs.Prelude.{fold}
 use Rattle.std.specs.Hash as fed
 use Rattle.vortex_types.specs.TypeRefs.{ref_term}
 use Rattle.vortex_scalar_value.specs.Value.{values_from}
+use Rattle.vortex_scalar.specs.RowOf.{row_of}
 use Rattle.vortex_scalar.specs.HashInput.{rows_writes}
 use Rattle.vortex_scalar.specs.inner.Inside.{inside_term}
 use Rattle.vortex_scalar.specs.inner.Held.{rows_under}
@@ -16,7 +17,7 @@ hash_row-hash_inside-requires g t c κs within =
     let u = ref_term c.args.of in
     let d = inside_term c.parts_of.result in (
       omega (arith, parts_light u d c.parts_of.ensures),
-      (within, inside_some u d (values_from c.in-List.values.now) _ c.in-List.ensures c.requires c.parts_of.ensures),
+      (within, inside_some u d (values_from c.in-List.values.now) (row_of u c.args.value.now) c.in-List.ensures c.requires c.parts_of.ensures),
     )
 
 pub hash_inside-part_at-requires : goal.hash_inside-part_at-requires
@@ -35,7 +36,7 @@ hash_inside-loop-i-preserved g t c =
     let d = inside_term c.args.inside in
     let u = ref_term c.part_at.result in
     let one = step d c.args.values.now c.loop-i.i u c.value_at.result.now c.part_at.ensures c.value_at.ensures c.loop-i.invariant.1 in (
-      fed_step g.H.Hasher.write d c.args.values.now c.loop-i.i u c.value_at.result.now _ c.loop-i.state c.hash_row.new.state one c.hash_row.ensures c.loop-i.invariant.0,
+      fed_step g.H.Hasher.write d c.args.values.now c.loop-i.i u c.value_at.result.now (fold g.H.Hasher.write c.hash.new.state (rows_writes (rows_under d (values_from c.args.values.now)))) c.loop-i.state c.hash_row.new.state one c.hash_row.ensures c.loop-i.invariant.0,
       one.rest,
     )
 

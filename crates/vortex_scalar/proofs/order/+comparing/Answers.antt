@@ -1,6 +1,7 @@
 use Rattle.std.proofs.Common.{◌∙◌, arith}
 use Rattle.vortex_types.specs.TypeRefs.{ref_term}
 use Rattle.vortex_scalar_value.specs.Value.{values_from}
+use Rattle.vortex_scalar.specs.RowOf.{row_of}
 use Rattle.vortex_scalar.specs.inner.Inside.{inside_term}
 use Rattle.vortex_scalar.specs.declared.row_ref.RowRef.TheVariants as refs
 use Rattle.vortex_scalar.proofs.Insides.{part_lighter}
@@ -14,8 +15,8 @@ compare-compare_inside-requires t c =
     let d = inside_term c.parts_of.result in (
       omega (arith, parts_light u d c.parts_of.ensures),
       (
-        inside_some u d (values_from c.in-List.a.now) _ c.in-List.ensures c.requires.left c.parts_of.ensures,
-        inside_some u d (values_from c.in-List-y.b.now) _ c.in-List-y.ensures c.requires.right c.parts_of.ensures,
+        inside_some u d (values_from c.in-List.a.now) (row_of u c.args.a.now) c.in-List.ensures c.requires.left c.parts_of.ensures,
+        inside_some u d (values_from c.in-List-y.b.now) (row_of u c.args.b.now) c.in-List-y.ensures c.requires.right c.parts_of.ensures,
       ),
     )
 
