@@ -1,19 +1,25 @@
 //! A type and a value that fits it, both lent.
 
-ghost use Rattle.std.specs.Prelude.{◌≡◌, Some, IfOk, IsOkUnless, slice_get, length};
+ghost use Rattle.std.specs.Prelude.{◌≡◌, ok_or, fold, Some, IfOk, IsOkUnless, slice_get, length};
 ghost use Rattle.std.specs.Option.{IsSome, option_copied, option_map, option_map_or};
 ghost use Rattle.vortex_terms.specs.Types.{Legal, field_at};
 ghost use Rattle.vortex_terms.specs.Row.{is_null};
 ghost use Rattle.vortex_terms.specs.Fits.{Fits};
 ghost use Rattle.vortex_types.specs.DTypes.{term_of};
 ghost use Rattle.vortex_scalar.specs.RowOf.{row_of, fitting_row};
-ghost use Rattle.vortex_scalar.specs.Made.{scalar_of};
+ghost use Rattle.vortex_scalar.specs.Made.{scalar_of, typed};
+ghost use Rattle.vortex_scalar.specs.Compare.{scalar_eq, scalar_cmp};
+ghost use Rattle.vortex_scalar.specs.HashInput.{scalar_writes};
 ghost use Rattle.vortex_scalar.specs.LargeViews.{part_type, part_scalar, part_scalars};
 ghost use Rattle.vortex_scalar.specs.LargeViews.{count_within};
 ghost use Rattle.vortex_scalar.specs.inner.Parts.{values_within, value_within};
 
+use crate::fit::fits;
+use crate::impls::{compare_values, equal_values, hash_value};
 use crate::scalar::Scalar;
 use std::alloc::Global;
+use std::cmp::Ordering;
+use std::hash::Hasher;
 use std::marker::Model;
 use vortex_scalar_value::{ScalarError, ScalarValue, ValueRef};
 use vortex_types::{DType, StructFields};
@@ -55,6 +61,23 @@ impl Scalar {
 }
 
 impl<'a> Fitting<'a> {
+    /// A type and a value, where it fits the type.
+    pub(super) fn try_new(
+        dtype: &'a DType,
+        value: &'a ScalarValue,
+    ) -> Result<Fitting<'a>, ScalarError>
+        ensures dtype { IfOk result (λ s. s.dtype ≡ term_of dtype.now) }
+        ensures scalar { result
+            ≡ ok_or (option_map (typed (term_of dtype.now)) (fitting_row (term_of dtype.now) value.now))
+            ScalarError.DoesNotFit }
+    {
+        if fits(dtype.type_ref(), value) {
+            Ok(Fitting { dtype, value })
+        } else {
+            Err(ScalarError::DoesNotFit)
+        }
+    }
+
     /// The type.
     pub(crate) fn dtype(&self) -> &'a DType
         ensures { term_of result.now ≡ self.now.dtype }
@@ -115,6 +138,27 @@ impl<'a> Fitting<'a> {
             parts.push(part)?;
         }
         Ok(Some(parts))
+    }
+
+    /// Whether the types are the same apart from nullability, and the rows are equal.
+    pub(super) fn equals(&self, other: &Fitting<'_>) -> bool
+        ensures { result ≡ scalar_eq self.now other.now }
+    {
+        equal_values(self.dtype, self.value, other.dtype, other.value)
+    }
+
+    /// How the rows compare, where the types are the same apart from nullability.
+    pub(super) fn compare(&self, other: &Fitting<'_>) -> Option<Ordering>
+        ensures { result ≡ scalar_cmp self.now other.now }
+    {
+        compare_values(self.dtype, self.value, other.dtype, other.value)
+    }
+
+    /// Feeds the scalar.
+    pub(super) fn feed<H: Hasher>(&self, state: &mut H)
+        ensures { state.new ≡ fold H.write state.old (scalar_writes self.now) }
+    {
+        hash_value(self.dtype, self.value, state);
     }
 
     /// The type is legal, and the row fits it. It does nothing when the program runs.
