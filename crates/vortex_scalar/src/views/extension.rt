@@ -65,10 +65,7 @@ impl Scalar {
 impl<'a> ExtScalar<'a> {
     /// The view of a value under a type. A type that is no extension is a WrongType, and a value
     /// that does not fit the type is a DoesNotFit.
-    pub fn try_new(
-        dtype: &'a DType,
-        value: &'a ScalarValue,
-    ) -> Result<ExtScalar<'a>, ScalarError>
+    pub fn try_new(dtype: &'a DType, value: &'a ScalarValue) -> Result<ExtScalar<'a>, ScalarError>
         ensures { result ≡ view_of is_extension (term_of dtype.now) value.now }
     {
         if !dtype.is_extension() {
