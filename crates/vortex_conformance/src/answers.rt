@@ -1,6 +1,7 @@
 //! The answer to a question.
 
 use crate::messages::messages_answer;
+use crate::protos::{proto_type_answer, resolve_answer};
 use crate::types::{same_answer, type_answer};
 use std::alloc::{AllocError, AllocFailed, Global};
 use vortex_buffer::BufferError;
@@ -71,6 +72,8 @@ fn asked(alloc: Global, line: &str) -> Result<String, Refusal> {
     match (words.next(), words.next(), words.next(), words.next()) {
         (Some("type"), Some(place), Some(bytes), None) => type_answer(alloc, place, bytes),
         (Some("same"), Some(one), Some(other), None) => same_answer(alloc, one, other),
+        (Some("proto-type"), Some(bytes), None, None) => proto_type_answer(alloc, bytes),
+        (Some("resolve"), Some(path), Some(dtype), None) => resolve_answer(alloc, path, dtype),
         (Some("messages"), Some(sizes), Some(bytes), None) => messages_answer(alloc, sizes, bytes),
         _ => Err(Refusal::Unknown),
     }

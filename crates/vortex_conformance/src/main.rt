@@ -4,6 +4,7 @@
 
 mod answers;
 mod messages;
+mod protos;
 mod types;
 mod words;
 

@@ -25,6 +25,8 @@ pub use vortex_types::{
 };
 
 #[cfg(test)]
+mod from_proto_tests;
+#[cfg(test)]
 mod proto_tests;
 #[cfg(test)]
 mod tests;

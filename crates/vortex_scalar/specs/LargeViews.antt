@@ -1,4 +1,5 @@
--- What a scalar of a list, a struct or an extension holds.
+-- What a scalar of a list, a struct, an extension, a text or bytes holds.
+--     holds_bytes                     whether a type is that of texts or of bytes
 --     is_any_list                     whether a type is that of lists, of any length or of one
 --     kept_if                         a scalar, where its type is of a kind
 --     rows_within, count_within       the rows inside a row, where it is a list
@@ -10,7 +11,7 @@
 use Rattle.std.specs.Prelude.{ℕ, Bool, true, false, List, [], ◌∷◌, map, Option, Some, None, if◌then◌else◌, Result, ok_or, unwrap_or}
 use Rattle.std.specs.Option.{option_map}
 use Rattle.vortex_prelude.specs.Chain.{◌>>=◌}
-use Rattle.vortex_terms.specs.Term.{Term, structure, list, fixed_size_list, Fields, field}
+use Rattle.vortex_terms.specs.Term.{Term, utf8, binary, structure, list, fixed_size_list, Fields, field}
 use Rattle.vortex_terms.specs.Types.{nullable, storage_of, place_of, field_at}
 use Rattle.vortex_terms.specs.StructFields.{projected}
 use Rattle.vortex_terms.specs.Row.{Row, null_row, list_row, Rows, row, row_list, rows_from, row_count, row_at}
@@ -19,6 +20,11 @@ use Rattle.vortex_scalar_value.specs.declared.error.ScalarError.{ScalarError}
 use Rattle.vortex_scalar_value.specs.declared.error.ScalarError.TheVariants as error
 use Rattle.vortex_scalar.specs.ScalarTerm.{ScalarTerm}
 use Rattle.vortex_scalar.specs.Made.{typed}
+
+abbrev pub holds_bytes : Term → Bool
+holds_bytes (utf8 n) = true
+holds_bytes (binary n) = true
+holds_bytes _ = false
 
 abbrev pub is_any_list : Term → Bool
 is_any_list (list t n) = true

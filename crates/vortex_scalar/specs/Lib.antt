@@ -10,5 +10,7 @@ pub mod ViewRows
 pub mod Views
 pub mod BoolLaws
 pub mod LargeViews
+pub mod TextViews
+pub mod TextLaws
 pub mod inner
 pub mod EqualLaws

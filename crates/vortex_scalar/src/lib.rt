@@ -22,5 +22,8 @@ pub use row_laws::rows_ignore_nullability;
 pub use scalar::Scalar;
 pub use scalar_type::ScalarType;
 pub use schema::scalar_schema;
-pub use views::{BoolScalar, DecimalScalar, ExtScalar, ListScalar, PrimitiveScalar, StructScalar};
+pub use views::{
+    BinaryScalar, BoolScalar, DecimalScalar, ExtScalar, ListScalar, PrimitiveScalar, StructScalar,
+    Utf8Scalar,
+};
 pub use vortex_scalar_value::{ScalarError, ScalarValue, ValueRef};

@@ -1,16 +1,23 @@
 //! Views of extensions.
 
+ghost use Rattle.std.specs.Cmp.{partial_equiv_from_equiv};
 ghost use Rattle.std.specs.Prelude.{◌≡◌, IsTrue, IfOk, IsOkUnless};
 ghost use Rattle.vortex_terms.specs.Types.{is_extension};
 ghost use Rattle.vortex_types.specs.DTypes.{term_of};
 ghost use Rattle.vortex_types.specs.ExtTerm.{ext_type};
 ghost use Rattle.vortex_scalar.specs.LargeViews.{kept_if, storage_scalar};
+ghost use Rattle.vortex_scalar.specs.ViewRows.{view_of};
+ghost use Rattle.vortex_scalar.specs.Compare.{scalar_eq, scalar_cmp};
+ghost use Rattle.vortex_scalar.specs.HashInput.{scalar_writes};
+ghost use Rattle.vortex_scalar.specs.EqualLaws.{scalar_equivalence, scalar_order, scalar_alike};
 
 use crate::scalar::Scalar;
 use crate::views::fitting::{Fitting, shared_dtype};
 use std::alloc::Global;
+use std::cmp::Ordering;
+use std::hash::{Hash, Hasher};
 use std::marker::Model;
-use vortex_scalar_value::ScalarError;
+use vortex_scalar_value::{ScalarError, ScalarValue};
 use vortex_types::{DType, ExtDType};
 
 /// A scalar of an extension type. Contracts see it as its type and its row.
@@ -56,6 +63,20 @@ impl Scalar {
 }
 
 impl<'a> ExtScalar<'a> {
+    /// The view of a value under a type. A type that is no extension is a WrongType, and a value
+    /// that does not fit the type is a DoesNotFit.
+    pub fn try_new(dtype: &'a DType, value: &'a ScalarValue) -> Result<ExtScalar<'a>, ScalarError>
+        ensures { result ≡ view_of is_extension (term_of dtype.now) value.now }
+    {
+        if !dtype.is_extension() {
+            return Err(ScalarError::WrongType);
+        }
+        match Fitting::try_new(dtype, value) {
+            Ok(fitting) => Ok(ExtScalar { fitting }),
+            Err(e) => Err(e),
+        }
+    }
+
     /// The extension type.
     pub fn ext_dtype(&self) -> &'a ExtDType
         ensures { ext_type result.now ≡ self.now.dtype }
@@ -75,5 +96,39 @@ impl<'a> ExtScalar<'a> {
         let dtype = shared_dtype(alloc, self.ext_dtype().storage_dtype())?;
         let value = self.fitting.value().try_clone(alloc)?;
         Ok(Scalar::new(dtype, value))
+    }
+}
+
+impl<'a> PartialEq for ExtScalar<'a> {
+    ghost eq = { scalar_eq };
+
+    ghost laws = { partial_equiv_from_equiv scalar_equivalence };
+
+    fn eq(&self, other: &ExtScalar<'a>) -> bool {
+        self.fitting.equals(&other.fitting)
+    }
+}
+
+impl<'a> Eq for ExtScalar<'a> {
+    ghost laws = { scalar_equivalence };
+}
+
+impl<'a> PartialOrd for ExtScalar<'a> {
+    ghost partial_cmp = { scalar_cmp };
+
+    ghost laws = { scalar_order };
+
+    fn partial_cmp(&self, other: &ExtScalar<'a>) -> Option<Ordering> {
+        self.fitting.compare(&other.fitting)
+    }
+}
+
+impl<'a> Hash for ExtScalar<'a> {
+    ghost hash_input = { scalar_writes };
+
+    ghost respects_eq = { scalar_alike.fed };
+
+    fn hash<H: Hasher>(&self, state: &mut H) {
+        self.fitting.feed(state);
     }
 }

@@ -1,20 +1,31 @@
 //! A type and a value that fits it, both lent.
 
-ghost use Rattle.std.specs.Prelude.{◌≡◌, Some, IfOk, IsOkUnless, slice_get, length};
+ghost use Rattle.std.specs.Prelude.{IsTrue, ◌≡◌, ok_or, fold, Some, IfOk, IsOkUnless, slice_get, length};
 ghost use Rattle.std.specs.Option.{IsSome, option_copied, option_map, option_map_or};
 ghost use Rattle.vortex_terms.specs.Types.{Legal, field_at};
-ghost use Rattle.vortex_terms.specs.Row.{is_null};
+ghost use Rattle.vortex_terms.specs.Row.{is_null, bytes_row};
 ghost use Rattle.vortex_terms.specs.Fits.{Fits};
 ghost use Rattle.vortex_types.specs.DTypes.{term_of};
+ghost use Rattle.vortex_types.specs.Predicates.{is_utf8};
+ghost use Rattle.vortex_scalar.specs.ViewRows.{or_null};
+ghost use Rattle.vortex_scalar.specs.LargeViews.{holds_bytes};
 ghost use Rattle.vortex_scalar.specs.RowOf.{row_of, fitting_row};
-ghost use Rattle.vortex_scalar.specs.Made.{scalar_of};
+ghost use Rattle.vortex_scalar.specs.Made.{scalar_of, typed};
+ghost use Rattle.vortex_scalar.specs.Compare.{scalar_eq, scalar_cmp};
+ghost use Rattle.vortex_scalar.specs.HashInput.{scalar_writes};
 ghost use Rattle.vortex_scalar.specs.LargeViews.{part_type, part_scalar, part_scalars};
 ghost use Rattle.vortex_scalar.specs.LargeViews.{count_within};
 ghost use Rattle.vortex_scalar.specs.inner.Parts.{values_within, value_within};
 
+use super::content::{buffer_in, bytes_in, string_in, text_in};
+use crate::fit::fits;
+use crate::impls::{compare_values, equal_values, hash_value};
 use crate::scalar::Scalar;
 use std::alloc::Global;
+use std::cmp::Ordering;
+use std::hash::Hasher;
 use std::marker::Model;
+use vortex_buffer::{BufferString, ByteBuffer};
 use vortex_scalar_value::{ScalarError, ScalarValue, ValueRef};
 use vortex_types::{DType, StructFields};
 
@@ -46,15 +57,37 @@ impl Scalar {
     pub(crate) fn fitting(&self) -> Fitting<'_>
         ensures { result ≡ self.now }
     {
-        self.law();
-        Fitting {
-            dtype: self.dtype(),
-            value: self.value(),
-        }
+        let (dtype, value) = self.parts();
+        Fitting { dtype, value }
     }
 }
 
 impl<'a> Fitting<'a> {
+    /// A type and a value that fits it.
+    pub(super) fn new(dtype: &'a DType, value: &'a ScalarValue) -> Fitting<'a>
+        requires { IsSome (fitting_row (term_of dtype.now) value.now) }
+        ensures { result ≡ scalar_of (term_of dtype.now) value.now }
+    {
+        Fitting { dtype, value }
+    }
+
+    /// A type and a value, where it fits the type.
+    pub(super) fn try_new(
+        dtype: &'a DType,
+        value: &'a ScalarValue,
+    ) -> Result<Fitting<'a>, ScalarError>
+        ensures dtype { IfOk result (λ s. s.dtype ≡ term_of dtype.now) }
+        ensures scalar { result
+            ≡ ok_or (option_map (typed (term_of dtype.now)) (fitting_row (term_of dtype.now) value.now))
+            ScalarError.DoesNotFit }
+    {
+        if fits(dtype.type_ref(), value) {
+            Ok(Fitting { dtype, value })
+        } else {
+            Err(ScalarError::DoesNotFit)
+        }
+    }
+
     /// The type.
     pub(crate) fn dtype(&self) -> &'a DType
         ensures { term_of result.now ≡ self.now.dtype }
@@ -115,6 +148,61 @@ impl<'a> Fitting<'a> {
             parts.push(part)?;
         }
         Ok(Some(parts))
+    }
+
+    /// The bytes of a text or of bytes, if it is not null.
+    pub(super) fn bytes(&self) -> Option<&'a [u8]>
+        requires { IsTrue (holds_bytes self.now.dtype) }
+        ensures { or_null bytes_row (option_copied result) ≡ self.now.row }
+    {
+        bytes_in(self.value)
+    }
+
+    /// The bytes of a text or of bytes, shared, if it is not null.
+    pub(super) fn buffer(&self, alloc: Global) -> Result<Option<ByteBuffer>, ScalarError>
+        requires { IsTrue (holds_bytes self.now.dtype) }
+        ensures bytes { IfOk result (λ o. or_null (λ b. bytes_row b.bytes) o ≡ self.now.row) }
+        ensures memory { IsOkUnless result ScalarError.OutOfMemory }
+    {
+        buffer_in(alloc, self.value)
+    }
+
+    /// The text, if it is not null.
+    pub(super) fn text(&self) -> Option<&'a str>
+        requires { IsTrue (is_utf8 self.now.dtype) }
+        ensures { or_null bytes_row (option_copied result) ≡ self.now.row }
+    {
+        text_in(self.value)
+    }
+
+    /// The text, shared, if it is not null.
+    pub(super) fn string(&self, alloc: Global) -> Result<Option<BufferString>, ScalarError>
+        requires { IsTrue (is_utf8 self.now.dtype) }
+        ensures text { IfOk result (λ o. or_null (λ b. bytes_row b.bytes) o ≡ self.now.row) }
+        ensures memory { IsOkUnless result ScalarError.OutOfMemory }
+    {
+        string_in(alloc, self.value)
+    }
+
+    /// Whether the types are the same apart from nullability, and the rows are equal.
+    pub(super) fn equals(&self, other: &Fitting<'_>) -> bool
+        ensures { result ≡ scalar_eq self.now other.now }
+    {
+        equal_values(self.dtype, self.value, other.dtype, other.value)
+    }
+
+    /// How the rows compare, where the types are the same apart from nullability.
+    pub(super) fn compare(&self, other: &Fitting<'_>) -> Option<Ordering>
+        ensures { result ≡ scalar_cmp self.now other.now }
+    {
+        compare_values(self.dtype, self.value, other.dtype, other.value)
+    }
+
+    /// Feeds the scalar.
+    pub(super) fn feed<H: Hasher>(&self, state: &mut H)
+        ensures { state.new ≡ fold H.write state.old (scalar_writes self.now) }
+    {
+        hash_value(self.dtype, self.value, state);
     }
 
     /// The type is legal, and the row fits it. It does nothing when the program runs.

@@ -10,8 +10,8 @@ use vortex_value::{PType, PValue, WholeNumber};
 
 /// The number of a value as one of a kind, where it is in the kind's range.
 pub(super) fn of_kind(ptype: PType, value: PValue) -> Option<PValue>
-    ensures number { option_map number_of result ≡ (if is_in_range (whole_kind ptype) (number_of value)
-        then Some (number_of value) else None) }
+    ensures number { let number = number_of value in option_map number_of result
+        ≡ (if is_in_range (whole_kind ptype) number then Some number else None) }
     ensures kind { IfSome result (λ v. kind_of v ≡ ptype) }
 {
     let number = value.as_i128();

@@ -26,15 +26,16 @@ fn compares<T: PartialOrd + Eq + Hash>(a: &T, b: &T, want: Option<Ordering>) -> 
     a.partial_cmp(b) == want && (a == b) == equal && (!equal || hash_of(a) == hash_of(b))
 }
 
-/// The truth value, the other one, and that of the scalar which is made of the view.
-fn truths(scalar: &Scalar) -> Option<[Option<bool>; 3]> {
-    let view = match scalar.as_bool_opt() {
-        Some(view) => view,
-        None => return None,
-    };
-    view.law();
-    let back = view.into_scalar();
-    Some([view.value(), view.invert().value(), back.as_bool().value()])
+/// Whether the truth value is so, also in the scalar which is made of the view.
+fn is_truth(scalar: &Scalar, want: Option<bool>, other: Option<bool>) -> bool {
+    match scalar.as_bool_opt() {
+        Some(view) => {
+            view.law();
+            let back = view.into_scalar();
+            view.value() == want && view.invert().value() == other && back.as_bool().value() == want
+        }
+        None => false,
+    }
 }
 
 #[test]
@@ -42,9 +43,9 @@ fn truth_values_are_viewed(rt: HostRuntime) {
     let yes = Scalar::bool(true, NOT);
     let null = Scalar::null(DType::Bool(MAY));
     let number = Scalar::primitive(1u8, NOT);
-    assert!(rt; truths(&yes) == Some([Some(true), Some(false), Some(true)]));
-    assert!(rt; truths(&null) == Some([None, None, None]));
-    assert!(rt; truths(&number).is_none());
+    assert!(rt; is_truth(&yes, Some(true), Some(false)));
+    assert!(rt; is_truth(&null, None, None));
+    assert!(rt; number.as_bool_opt().is_none());
 }
 
 fn order<T: Ord>(a: &T, b: &T) -> Ordering {
@@ -69,26 +70,30 @@ fn truth_values_compare(rt: HostRuntime) {
     assert!(rt; truths_compare(&null, &null, Ordering::Equal));
 }
 
-/// The kind of the type and of the number, and the number as other native types.
-fn numbers(
+/// Whether a number that is there is of the kind.
+fn is_own(value: Option<PValue>, ptype: PType) -> bool {
+    match value {
+        Some(value) => value.is_instance_of(&ptype),
+        None => true,
+    }
+}
+
+/// Whether the view has the kind, and the number as other native types is so.
+fn casts(
     scalar: &Scalar,
-) -> Option<
-    (
-        PType,
-        Option<PType>,
-        Option<Option<i8>>,
-        Option<Option<u64>>,
-    ),
-> {
-    let view = match scalar.as_primitive_opt() {
-        Some(view) => view,
-        None => return None,
-    };
-    let kind = match view.pvalue() {
-        Some(value) => Some(value.ptype()),
-        None => None,
-    };
-    Some((view.ptype(), kind, view.as_opt(), view.as_opt()))
+    ptype: PType,
+    narrow: Option<Option<i8>>,
+    wide: Option<Option<u64>>,
+) -> bool {
+    match scalar.as_primitive_opt() {
+        Some(view) => {
+            view.ptype() == ptype
+                && is_own(view.pvalue(), ptype)
+                && view.as_opt::<i8>() == narrow
+                && view.as_opt::<u64>() == wide
+        }
+        None => false,
+    }
 }
 
 #[test]
@@ -97,27 +102,25 @@ fn whole_numbers_are_viewed(rt: HostRuntime) {
     let high = Scalar::primitive(200u8, NOT);
     let null = Scalar::null(DType::Primitive(PType::I16, MAY));
     let truth = Scalar::bool(true, NOT);
-    assert!(rt; numbers(&below) == Some((PType::I64, Some(PType::I64), Some(Some(-1)), None)));
-    assert!(rt; numbers(&high) == Some((PType::U8, Some(PType::U8), None, Some(Some(200)))));
-    assert!(rt; numbers(&null) == Some((PType::I16, None, Some(None), Some(None))));
-    assert!(rt; numbers(&truth).is_none());
+    assert!(rt; casts(&below, PType::I64, Some(Some(-1)), None));
+    assert!(rt; casts(&high, PType::U8, None, Some(Some(200))));
+    assert!(rt; casts(&null, PType::I16, Some(None), Some(None)));
+    assert!(rt; truth.as_primitive_opt().is_none());
 }
 
-/// The number of a scalar of `i64`, taken in three ways.
-fn typed(scalar: &Scalar) -> Option<[Option<i64>; 3]> {
-    let view = match scalar.as_primitive_opt() {
-        Some(view) => view,
-        None => return None,
-    };
-    view.law();
-    let back = view.into_scalar();
-    match view.ptype() {
-        PType::I64 => Some([
-            view.typed_value(),
-            view.as_opt().unwrap_or(None),
-            back.as_primitive().as_opt().unwrap_or(None),
-        ]),
-        _ => None,
+/// Whether the number of a scalar of `i64` is so, also in the scalar which is made of the view.
+fn is_typed(scalar: &Scalar, want: Option<i64>) -> bool {
+    match scalar.as_primitive_opt() {
+        Some(view) => {
+            view.law();
+            let back = view.into_scalar();
+            let same = back.as_primitive().as_opt::<i64>() == Some(want);
+            match view.ptype() {
+                PType::I64 => view.typed_value::<i64>() == want && same,
+                _ => false,
+            }
+        }
+        None => false,
     }
 }
 
@@ -126,9 +129,26 @@ fn whole_numbers_have_their_type(rt: HostRuntime) {
     let below = Scalar::primitive(-1i64, NOT);
     let null = Scalar::null(DType::Primitive(PType::I64, MAY));
     let high = Scalar::primitive(200u8, NOT);
-    assert!(rt; typed(&below) == Some([Some(-1), Some(-1), Some(-1)]));
-    assert!(rt; typed(&null) == Some([None, None, None]));
-    assert!(rt; typed(&high).is_none());
+    assert!(rt; is_typed(&below, Some(-1)));
+    assert!(rt; is_typed(&null, None));
+    assert!(rt; !is_typed(&high, Some(200)));
+}
+
+/// The number of a scalar as `u16`, where it is in range.
+fn narrowed(scalar: &Scalar) -> Option<u16> {
+    match scalar.as_primitive_opt() {
+        Some(view) => match view.as_opt::<u16>() {
+            Some(_) => view.as_::<u16>(),
+            None => None,
+        },
+        None => None,
+    }
+}
+
+#[test]
+fn whole_numbers_are_narrowed(rt: HostRuntime) {
+    assert!(rt; narrowed(&Scalar::primitive(65535u64, NOT)) == Some(65535));
+    assert!(rt; narrowed(&Scalar::primitive(65536u64, NOT)).is_none());
 }
 
 /// The kind and the number that are kept of a value.
@@ -178,10 +198,7 @@ fn whole_numbers_compare(rt: HostRuntime) {
 
 /// The number of a decimal, from its view and from the scalar which is made of that.
 fn decimals(dtype: &DType, value: &ScalarValue) -> Result<[Option<i128>; 2], ScalarError> {
-    let view = match DecimalScalar::try_new(dtype, value) {
-        Ok(view) => view,
-        Err(e) => return Err(e),
-    };
+    let view = DecimalScalar::try_new(dtype, value)?;
     view.law();
     let back = view.into_scalar();
     Ok([view.number(), back.as_decimal().number()])

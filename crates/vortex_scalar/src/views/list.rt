@@ -1,5 +1,6 @@
 //! Views of lists.
 
+ghost use Rattle.std.specs.Cmp.{partial_equiv_from_equiv};
 ghost use Rattle.std.specs.Prelude.{◌≡◌, Some, IsTrue, IfOk, IsOkUnless, nat_eq};
 ghost use Rattle.std.specs.Option.{option_map};
 ghost use Rattle.vortex_terms.specs.Row.{is_null};
@@ -7,10 +8,15 @@ ghost use Rattle.vortex_types.specs.Accessors.{any_size_list_element_of};
 ghost use Rattle.vortex_types.specs.DTypes.{term_of};
 ghost use Rattle.vortex_scalar.specs.LargeViews.{is_any_list, kept_if, count_within};
 ghost use Rattle.vortex_scalar.specs.LargeViews.{part_scalar, part_scalars};
+ghost use Rattle.vortex_scalar.specs.Compare.{scalar_eq, scalar_cmp};
+ghost use Rattle.vortex_scalar.specs.HashInput.{scalar_writes};
+ghost use Rattle.vortex_scalar.specs.EqualLaws.{scalar_equivalence, scalar_order, scalar_alike};
 
 use crate::scalar::Scalar;
 use crate::views::fitting::Fitting;
 use std::alloc::Global;
+use std::cmp::Ordering;
+use std::hash::{Hash, Hasher};
 use std::marker::Model;
 use vortex_scalar_value::ScalarError;
 use vortex_types::DType;
@@ -111,5 +117,39 @@ impl<'a> ListScalar<'a> {
         ensures memory { IsOkUnless result ScalarError.OutOfMemory }
     {
         self.fitting.parts(alloc)
+    }
+}
+
+impl<'a> PartialEq for ListScalar<'a> {
+    ghost eq = { scalar_eq };
+
+    ghost laws = { partial_equiv_from_equiv scalar_equivalence };
+
+    fn eq(&self, other: &ListScalar<'a>) -> bool {
+        self.fitting.equals(&other.fitting)
+    }
+}
+
+impl<'a> Eq for ListScalar<'a> {
+    ghost laws = { scalar_equivalence };
+}
+
+impl<'a> PartialOrd for ListScalar<'a> {
+    ghost partial_cmp = { scalar_cmp };
+
+    ghost laws = { scalar_order };
+
+    fn partial_cmp(&self, other: &ListScalar<'a>) -> Option<Ordering> {
+        self.fitting.compare(&other.fitting)
+    }
+}
+
+impl<'a> Hash for ListScalar<'a> {
+    ghost hash_input = { scalar_writes };
+
+    ghost respects_eq = { scalar_alike.fed };
+
+    fn hash<H: Hasher>(&self, state: &mut H) {
+        self.fitting.feed(state);
     }
 }

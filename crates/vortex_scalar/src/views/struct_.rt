@@ -1,5 +1,6 @@
 //! Views of structs.
 
+ghost use Rattle.std.specs.Cmp.{partial_equiv_from_equiv};
 ghost use Rattle.std.specs.Prelude.{◌≡◌, IsTrue, IfOk, IsOkUnless, map, ok_or, Ok, Err};
 ghost use Rattle.std.specs.Option.{option_map};
 ghost use Rattle.vortex_terms.specs.Types.{names_of};
@@ -13,10 +14,15 @@ ghost use Rattle.vortex_scalar.specs.Answers.{Answers};
 ghost use Rattle.vortex_scalar.specs.LargeViews.{kept_if, part_scalar, part_scalars};
 ghost use Rattle.vortex_scalar.specs.LargeViews.{field_scalar, projected_scalar};
 ghost use Rattle.vortex_scalar.specs.inner.Parts.{named_value, projected_value};
+ghost use Rattle.vortex_scalar.specs.Compare.{scalar_eq, scalar_cmp};
+ghost use Rattle.vortex_scalar.specs.HashInput.{scalar_writes};
+ghost use Rattle.vortex_scalar.specs.EqualLaws.{scalar_equivalence, scalar_order, scalar_alike};
 
 use crate::scalar::Scalar;
 use crate::views::fitting::{Fitting, inside};
 use std::alloc::Global;
+use std::cmp::Ordering;
+use std::hash::{Hash, Hasher};
 use std::marker::Model;
 use vortex_names::{DTypeError, FieldName, FieldNames};
 use vortex_scalar_value::{ScalarError, ScalarValue};
@@ -134,6 +140,40 @@ impl<'a> StructScalar<'a> {
         let value = self.fitting.value();
         let value = projected_value(alloc, self.struct_fields(), value, projection)?;
         Ok(Scalar::new(dtype, value))
+    }
+}
+
+impl<'a> PartialEq for StructScalar<'a> {
+    ghost eq = { scalar_eq };
+
+    ghost laws = { partial_equiv_from_equiv scalar_equivalence };
+
+    fn eq(&self, other: &StructScalar<'a>) -> bool {
+        self.fitting.equals(&other.fitting)
+    }
+}
+
+impl<'a> Eq for StructScalar<'a> {
+    ghost laws = { scalar_equivalence };
+}
+
+impl<'a> PartialOrd for StructScalar<'a> {
+    ghost partial_cmp = { scalar_cmp };
+
+    ghost laws = { scalar_order };
+
+    fn partial_cmp(&self, other: &StructScalar<'a>) -> Option<Ordering> {
+        self.fitting.compare(&other.fitting)
+    }
+}
+
+impl<'a> Hash for StructScalar<'a> {
+    ghost hash_input = { scalar_writes };
+
+    ghost respects_eq = { scalar_alike.fed };
+
+    fn hash<H: Hasher>(&self, state: &mut H) {
+        self.fitting.feed(state);
     }
 }
 
