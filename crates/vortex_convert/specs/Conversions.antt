@@ -1,15 +1,23 @@
 -- What conversions from scalars answer. Each finds WrongType exactly where the type is not the call's, and else what the
 -- row holds, none for null.
 --     whole_in, any_whole_in      a number of a kind, and of any kind
+--     is_whole                    whether a type is that of numbers of a kind
 --     truth_in, text_in, bytes_in, decimal_in, rows_in      what else a scalar may hold
+--     unit_in                     null
 --     not_null                    the same, null being refused
 --     as_length                   a number as a length, one below 0 being refused
---     Answers                     an answer that took memory
-use Rattle.std.specs.Prelude.{◌≡◌, ◌⊎◌, ℕ, ℤ, pos, negsuc, Bool, List, map, Option, Some, None, Result, Ok, Err, if◌then◌else◌}
+--     row_in                      the row of what a scalar holds
+--     list_in                     the rows of the elements of a list, each read so
+--     optional                    a row, or null
+--     Tells                       an answer that took no memory
+--     width_precision             the precision of a decimal of a width
+use Rattle.std.specs.Prelude.{◌≡◌, ℕ, ℤ, pos, negsuc, Bool, false, List, [], ◌∷◌, map, Option, Some, None, Result, Ok, Err, if◌then◌else◌}
 use Rattle.std.specs.Option.{option_map}
 use Rattle.vortex_terms.specs.Term.{WholeKind, Term, boolean, primitive, decimal, utf8, binary, list, fixed_size_list}
 use Rattle.vortex_terms.specs.Equality.{kind_eq}
-use Rattle.vortex_terms.specs.Row.{Row, truth_row, whole_row, bytes_row, list_row, row_list}
+use Rattle.vortex_terms.specs.Row.{Row, is_null, null_row, truth_row, whole_row, bytes_row, list_row, row_list, rows_from}
+use Rattle.vortex_value.specs.declared.decimal.DecimalValueType.{DecimalValueType}
+use Rattle.vortex_value.specs.declared.decimal.DecimalValueType.TheVariants as width
 use Rattle.vortex_scalar_value.specs.declared.error.ScalarError.{ScalarError}
 use Rattle.vortex_scalar_value.specs.declared.error.ScalarError.TheVariants as error
 use Rattle.vortex_scalar.specs.ScalarTerm.{ScalarTerm}
@@ -38,6 +46,11 @@ whole_in k s = from s.dtype
     from : Term → Result (Option ℤ) ScalarError
     from (primitive l n) = if kind_eq k l then Ok (number_of_row s.row) else Err error.WrongType
     from _ = Err error.WrongType
+
+-- whether it is the type of numbers of this kind
+abbrev pub is_whole : WholeKind → Term → Bool
+is_whole k (primitive l n) = kind_eq k l
+is_whole k _ = false
 
 -- a number of any kind
 abbrev pub any_whole_in : ScalarTerm → Result (Option ℤ) ScalarError
@@ -104,7 +117,56 @@ as_length (Ok (Some (negsuc n))) = Err error.OutOfRange
 as_length (Ok None) = Ok None
 as_length (Err e) = Err e
 
--- the answer, seen by view, is the wanted one, unless memory ran out
-abbrev pub Answers : {X Y : Type 0} → (X → Y) → Result X ScalarError → Result Y ScalarError → Type 0
-Answers view (Ok x) wanted = wanted ≡ Ok (view x)
-Answers view (Err e) wanted = (e ≡ error.OutOfMemory) ⊎ (wanted ≡ Err e)
+-- null, of whatever type
+abbrev pub unit_in : ScalarTerm → Result (Unit {0}) ScalarError
+unit_in s = if is_null s.row then Ok tt else Err error.WrongType
+
+-- the answer, seen by view, is the wanted one
+abbrev pub Tells : {X Y : Type 0} → (X → Y) → Result X ScalarError → Result Y ScalarError → Type 0
+Tells view (Ok x) wanted = wanted ≡ Ok (view x)
+Tells view (Err e) wanted = wanted ≡ Err e
+
+-- what is found, seen by view
+abbrev pub result_map : {A B : Type 0} → (A → B) → Result A ScalarError → Result B ScalarError
+result_map view (Ok x) = Ok (view x)
+result_map view (Err e) = Err e
+
+-- the row of what is there, null being refused
+abbrev pub row_in : {A : Type 0} → (A → Row) → (ScalarTerm → Result (Option A) ScalarError) → ScalarTerm → Result Row ScalarError
+row_in row find s = result_map row (not_null (find s))
+
+-- an answer before the others, or its refusal
+abbrev pub before : {A : Type 0} → Result A ScalarError → Result (List A) ScalarError → Result (List A) ScalarError
+before (Ok x) found = result_map (λ xs. x ∷ xs) found
+before (Err e) found = Err e
+
+-- the answers for each, in order, or the first refusal
+abbrev pub each : {A B : Type 0} → (A → Result B ScalarError) → List A → Result (List B) ScalarError
+each read [] = Ok []
+each read (x ∷ xs) = before (read x) (each read xs)
+
+-- the elements of a list, read so
+abbrev pub list_in : (ScalarTerm → Result Row ScalarError) → ScalarTerm → Result (Option (List Row)) ScalarError
+list_in read s = all (elements_in s)
+  where
+    all : Result (Option (List ScalarTerm)) ScalarError → Result (Option (List Row)) ScalarError
+    all (Ok (Some ss)) = result_map Some (each read ss)
+    all (Ok None) = Ok None
+    all (Err e) = Err e
+
+-- a row, null being taken, where the type is one that is taken
+abbrev pub optional : (Term → Bool) → (ScalarTerm → Result Row ScalarError) → ScalarTerm → Result Row ScalarError
+optional takes read s =
+    if takes s.dtype then (if is_null s.row then Ok null_row else read s) else Err error.WrongType
+
+-- the row of a list of these rows
+abbrev pub list_of : List Row → Row
+list_of rs = list_row (rows_from rs)
+
+-- the precision under which a decimal of this width is made
+abbrev pub width_precision : DecimalValueType → ℕ
+width_precision width.I8 = 3
+width_precision width.I16 = 5
+width_precision width.I32 = 10
+width_precision width.I64 = 19
+width_precision width.I128 = 38

@@ -7,15 +7,23 @@ const NOT: Nullability = Nullability::NonNullable;
 
 const MAY: Nullability = Nullability::Nullable;
 
-/// Whether the type is written as these bytes.
-fn is_written(alloc: Global, dtype: &DType, bytes: &[u8]) -> bool {
-    match dtype.to_proto(alloc) {
-        Ok(message) => message.as_slice() == bytes,
+/// Whether the bytes are read as the type.
+fn is_read(alloc: Global, dtype: &DType, bytes: &[u8]) -> bool {
+    match DType::from_proto(alloc, bytes) {
+        Ok(read) => read == *dtype,
         Err(_) => false,
     }
 }
 
-/// Whether there is a type, and it is written as these bytes.
+/// Whether the type is written as these bytes, and read from them.
+fn is_written(alloc: Global, dtype: &DType, bytes: &[u8]) -> bool {
+    match dtype.to_proto(alloc) {
+        Ok(message) => message.as_slice() == bytes && is_read(alloc, dtype, bytes),
+        Err(_) => false,
+    }
+}
+
+/// Whether there is a type, and it is written as these bytes and read from them.
 fn writes(alloc: Global, dtype: Result<DType, DTypeError>, bytes: &[u8]) -> bool {
     match dtype {
         Ok(dtype) => is_written(alloc, &dtype, bytes),

@@ -198,10 +198,7 @@ fn whole_numbers_compare(rt: HostRuntime) {
 
 /// The number of a decimal, from its view and from the scalar which is made of that.
 fn decimals(dtype: &DType, value: &ScalarValue) -> Result<[Option<i128>; 2], ScalarError> {
-    let view = match DecimalScalar::try_new(dtype, value) {
-        Ok(view) => view,
-        Err(e) => return Err(e),
-    };
+    let view = DecimalScalar::try_new(dtype, value)?;
     view.law();
     let back = view.into_scalar();
     Ok([view.number(), back.as_decimal().number()])
