@@ -1,6 +1,6 @@
 //! Lists of scalars.
 
-ghost use Rattle.std.specs.Prelude.{◌≡◌, false, map, IfOk, IsOkUnless};
+ghost use Rattle.std.specs.Prelude.{◌≡◌, false, refl, map, IfOk, IsOkUnless};
 ghost use Rattle.std.specs.Option.{option_map};
 ghost use Rattle.vortex_terms.specs.Term.{list};
 ghost use Rattle.vortex_types.specs.DTypes.{term_of};
@@ -9,6 +9,7 @@ ghost use Rattle.vortex_scalar.specs.LargeViews.{is_any_list};
 ghost use Rattle.vortex_scalar.specs.Made.{typed};
 ghost use Rattle.vortex_convert.specs.Conversions.{each, list_in, list_of, not_null, row_in};
 ghost use Rattle.vortex_convert.specs.Refused.{elements_refused};
+ghost use Rattle.vortex_convert.specs.Kept.{list_taken, list_either, list_kept};
 
 use crate::native_scalar::NativeScalar;
 use std::alloc::Global;
@@ -104,4 +105,12 @@ impl<T: NativeScalar> NativeScalar for Vec<T> {
     }
 
     ghost refused = { elements_refused T.reads };
+
+    ghost own_taken = { refl };
+
+    ghost either_taken = { list_taken };
+
+    ghost either = { list_either T.reads };
+
+    ghost kept = { λ v. list_kept T.reads T.term T.row_of T.kept v.items };
 }

@@ -1,6 +1,6 @@
 //! Whole numbers as rows.
 
-ghost use Rattle.std.specs.Prelude.{◌≡◌, pos};
+ghost use Rattle.std.specs.Prelude.{◌≡◌, pos, refl};
 ghost use Rattle.vortex_terms.specs.Term.{unsigned_8, unsigned_16, unsigned_32, unsigned_64};
 ghost use Rattle.vortex_terms.specs.Term.{signed_8, signed_16, signed_32, signed_64};
 ghost use Rattle.vortex_terms.specs.Row.{whole_row};
@@ -8,6 +8,7 @@ ghost use Rattle.vortex_number.specs.WholeKind.{whole_kind};
 ghost use Rattle.vortex_types.specs.DTypes.{term_of};
 ghost use Rattle.vortex_convert.specs.Conversions.{is_whole, whole_in, row_in};
 ghost use Rattle.vortex_convert.specs.Refused.{whole_refused};
+ghost use Rattle.vortex_convert.specs.Kept.{whole_taken, whole_either};
 
 use crate::native_scalar::NativeScalar;
 use crate::numbers::{to_i8, to_i16, to_i32, to_i64, to_u8, to_u16, to_u32, to_u64};
@@ -47,6 +48,14 @@ impl NativeScalar for u8 {
     }
 
     ghost refused = { whole_refused unsigned_8 };
+
+    ghost own_taken = { refl };
+
+    ghost either_taken = { whole_taken unsigned_8 };
+
+    ghost either = { whole_either unsigned_8 };
+
+    ghost kept = { λ _. refl };
 }
 
 impl NativeScalar for u16 {
@@ -69,6 +78,14 @@ impl NativeScalar for u16 {
     }
 
     ghost refused = { whole_refused unsigned_16 };
+
+    ghost own_taken = { refl };
+
+    ghost either_taken = { whole_taken unsigned_16 };
+
+    ghost either = { whole_either unsigned_16 };
+
+    ghost kept = { λ _. refl };
 }
 
 impl NativeScalar for u32 {
@@ -91,6 +108,14 @@ impl NativeScalar for u32 {
     }
 
     ghost refused = { whole_refused unsigned_32 };
+
+    ghost own_taken = { refl };
+
+    ghost either_taken = { whole_taken unsigned_32 };
+
+    ghost either = { whole_either unsigned_32 };
+
+    ghost kept = { λ _. refl };
 }
 
 impl NativeScalar for u64 {
@@ -113,6 +138,14 @@ impl NativeScalar for u64 {
     }
 
     ghost refused = { whole_refused unsigned_64 };
+
+    ghost own_taken = { refl };
+
+    ghost either_taken = { whole_taken unsigned_64 };
+
+    ghost either = { whole_either unsigned_64 };
+
+    ghost kept = { λ _. refl };
 }
 
 impl NativeScalar for i8 {
@@ -135,6 +168,14 @@ impl NativeScalar for i8 {
     }
 
     ghost refused = { whole_refused signed_8 };
+
+    ghost own_taken = { refl };
+
+    ghost either_taken = { whole_taken signed_8 };
+
+    ghost either = { whole_either signed_8 };
+
+    ghost kept = { λ _. refl };
 }
 
 impl NativeScalar for i16 {
@@ -157,6 +198,14 @@ impl NativeScalar for i16 {
     }
 
     ghost refused = { whole_refused signed_16 };
+
+    ghost own_taken = { refl };
+
+    ghost either_taken = { whole_taken signed_16 };
+
+    ghost either = { whole_either signed_16 };
+
+    ghost kept = { λ _. refl };
 }
 
 impl NativeScalar for i32 {
@@ -179,6 +228,14 @@ impl NativeScalar for i32 {
     }
 
     ghost refused = { whole_refused signed_32 };
+
+    ghost own_taken = { refl };
+
+    ghost either_taken = { whole_taken signed_32 };
+
+    ghost either = { whole_either signed_32 };
+
+    ghost kept = { λ _. refl };
 }
 
 impl NativeScalar for i64 {
@@ -201,4 +258,12 @@ impl NativeScalar for i64 {
     }
 
     ghost refused = { whole_refused signed_64 };
+
+    ghost own_taken = { refl };
+
+    ghost either_taken = { whole_taken signed_64 };
+
+    ghost either = { whole_either signed_64 };
+
+    ghost kept = { λ _. refl };
 }

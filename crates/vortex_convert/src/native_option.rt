@@ -7,6 +7,7 @@ ghost use Rattle.vortex_terms.specs.Nullability.{with_nullability};
 ghost use Rattle.vortex_scalar.specs.Made.{typed};
 ghost use Rattle.vortex_convert.specs.Conversions.{optional};
 ghost use Rattle.vortex_convert.specs.Refused.{optional_refused};
+ghost use Rattle.vortex_convert.specs.Kept.{optional_taken, optional_either, optional_kept};
 
 use crate::native_scalar::NativeScalar;
 use std::alloc::Global;
@@ -51,4 +52,13 @@ impl<T: NativeScalar> NativeScalar for Option<T> {
     }
 
     ghost refused = { optional_refused T.takes T.reads };
+
+    ghost own_taken = { optional_taken T.takes T.term T.either_taken T.own_taken };
+
+    ghost either_taken = { T.either_taken };
+
+    ghost either = { optional_either T.takes T.reads T.either_taken T.either };
+
+    ghost kept = { optional_kept
+        T.takes T.reads T.term T.row_of T.either_taken T.own_taken T.either T.kept };
 }

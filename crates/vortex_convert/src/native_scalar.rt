@@ -1,14 +1,16 @@
 //! Native types whose values are rows of a type.
 
-ghost use Rattle.std.specs.Prelude.{◌≡◌, Bool, false, Result, IfOk, IsOkUnless};
+ghost use Rattle.std.specs.Prelude.{◌≡◌, Bool, true, false, Result, Ok, IfOk, IsOkUnless};
 ghost use Rattle.vortex_terms.specs.Term.{Term};
 ghost use Rattle.vortex_terms.specs.Row.{Row};
+ghost use Rattle.vortex_terms.specs.Nullability.{with_nullability};
 ghost use Rattle.vortex_types.specs.DTypes.{term_of};
 ghost use Rattle.vortex_scalar_value.specs.declared.error.ScalarError.{ScalarError};
 ghost use Rattle.vortex_scalar.specs.ScalarTerm.{ScalarTerm};
 ghost use Rattle.vortex_scalar.specs.Answers.{Answers};
 ghost use Rattle.vortex_scalar.specs.Made.{typed};
 ghost use Rattle.vortex_convert.specs.Refused.{IsRefused};
+ghost use Rattle.vortex_convert.specs.Kept.{IsEither, IsEitherTaken};
 
 use std::alloc::Global;
 use vortex_scalar::{Scalar, ScalarError, ScalarType};
@@ -40,4 +42,22 @@ pub trait NativeScalar: ScalarType + Drop {
 
     // A type that is not taken is a WrongType.
     ghost refused: { (s : ScalarTerm) → takes s.dtype ≡ false → IsRefused (reads s) };
+
+    // The own type is taken.
+    ghost own_taken: { takes Self.term ≡ true };
+
+    // Whether a type is nullable is no matter, neither for whether it is taken nor for what is read.
+    ghost either_taken: { IsEitherTaken takes };
+
+    ghost either: { IsEither reads };
+
+    // The row of a value is read as that row.
+    ghost kept: { (x : Self) → reads (typed Self.term (row_of x)) ≡ Ok (row_of x) };
 }
+
+/// The scalar of a value is read as the row of that value, also where its type is made nullable
+/// or not. It does nothing when the program runs.
+pub fn rows_are_kept<T: NativeScalar>()
+    ensures { (x : T) (n : Bool)
+        → T.reads (typed (with_nullability T.term n) (T.row_of x)) ≡ Ok (T.row_of x) }
+{}

@@ -1,6 +1,6 @@
 //! Truth values, texts and bytes as rows.
 
-ghost use Rattle.std.specs.Prelude.{◌≡◌, false};
+ghost use Rattle.std.specs.Prelude.{◌≡◌, false, refl};
 ghost use Rattle.std.specs.String.{string_bytes};
 ghost use Rattle.vortex_terms.specs.Term.{utf8};
 ghost use Rattle.vortex_terms.specs.Row.{truth_row, bytes_row};
@@ -8,6 +8,8 @@ ghost use Rattle.vortex_types.specs.Predicates.{is_boolean, is_utf8, is_binary};
 ghost use Rattle.vortex_scalar.specs.Made.{typed};
 ghost use Rattle.vortex_convert.specs.Conversions.{truth_in, text_in, bytes_in, row_in};
 ghost use Rattle.vortex_convert.specs.Refused.{truth_refused, text_refused, bytes_refused};
+ghost use Rattle.vortex_convert.specs.Kept.{boolean_taken, text_taken, bytes_taken};
+ghost use Rattle.vortex_convert.specs.Kept.{truth_either, text_either, bytes_either};
 
 use crate::native_scalar::NativeScalar;
 use crate::plain::to_bool;
@@ -48,6 +50,14 @@ impl NativeScalar for bool {
     }
 
     ghost refused = { truth_refused };
+
+    ghost own_taken = { refl };
+
+    ghost either_taken = { boolean_taken };
+
+    ghost either = { truth_either };
+
+    ghost kept = { λ _. refl };
 }
 
 impl NativeScalar for String {
@@ -70,6 +80,14 @@ impl NativeScalar for String {
     }
 
     ghost refused = { text_refused };
+
+    ghost own_taken = { refl };
+
+    ghost either_taken = { text_taken };
+
+    ghost either = { text_either };
+
+    ghost kept = { λ _. refl };
 }
 
 impl NativeScalar for BufferString {
@@ -92,6 +110,14 @@ impl NativeScalar for BufferString {
     }
 
     ghost refused = { text_refused };
+
+    ghost own_taken = { refl };
+
+    ghost either_taken = { text_taken };
+
+    ghost either = { text_either };
+
+    ghost kept = { λ _. refl };
 }
 
 impl NativeScalar for ByteBuffer {
@@ -114,4 +140,12 @@ impl NativeScalar for ByteBuffer {
     }
 
     ghost refused = { bytes_refused };
+
+    ghost own_taken = { refl };
+
+    ghost either_taken = { bytes_taken };
+
+    ghost either = { bytes_either };
+
+    ghost kept = { λ _. refl };
 }
