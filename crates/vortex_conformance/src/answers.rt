@@ -2,11 +2,13 @@
 
 use crate::messages::messages_answer;
 use crate::protos::{proto_type_answer, resolve_answer};
+use crate::scalars::{order_answer, scalar_answer};
 use crate::types::{same_answer, type_answer};
 use std::alloc::{AllocError, AllocFailed, Global};
 use vortex_buffer::BufferError;
 use vortex_dtype::DTypeError;
 use vortex_ipc::IpcError;
+use vortex_scalar::ScalarError;
 
 /// Why a question has no answer, or a name alone.
 pub(crate) enum Refusal {
@@ -14,6 +16,8 @@ pub(crate) enum Refusal {
     Unknown,
     /// A call on types refused.
     Type(DTypeError),
+    /// A call on scalars refused.
+    Scalar(ScalarError),
     /// Lack of memory.
     OutOfMemory,
 }
@@ -23,6 +27,15 @@ impl From<DTypeError> for Refusal {
         match error {
             DTypeError::OutOfMemory => Refusal::OutOfMemory,
             _ => Refusal::Type(error),
+        }
+    }
+}
+
+impl From<ScalarError> for Refusal {
+    fn from(error: ScalarError) -> Refusal {
+        match error {
+            ScalarError::OutOfMemory => Refusal::OutOfMemory,
+            _ => Refusal::Scalar(error),
         }
     }
 }
@@ -63,6 +76,7 @@ pub(crate) fn answer(alloc: Global, line: &str) -> Result<String, AllocError> {
         Ok(text) => Ok(text),
         Err(Refusal::Unknown) => String::from_str(alloc, "Unknown"),
         Err(Refusal::Type(error)) => format!(in alloc; "{error:?}"),
+        Err(Refusal::Scalar(error)) => format!(in alloc; "{error:?}"),
         Err(Refusal::OutOfMemory) => Err(AllocError),
     }
 }
@@ -74,6 +88,8 @@ fn asked(alloc: Global, line: &str) -> Result<String, Refusal> {
         (Some("same"), Some(one), Some(other), None) => same_answer(alloc, one, other),
         (Some("proto-type"), Some(bytes), None, None) => proto_type_answer(alloc, bytes),
         (Some("resolve"), Some(path), Some(dtype), None) => resolve_answer(alloc, path, dtype),
+        (Some("scalar"), Some(bytes), None, None) => scalar_answer(alloc, bytes),
+        (Some("order"), Some(one), Some(other), None) => order_answer(alloc, one, other),
         (Some("messages"), Some(sizes), Some(bytes), None) => messages_answer(alloc, sizes, bytes),
         _ => Err(Refusal::Unknown),
     }

@@ -5,6 +5,7 @@
 mod answers;
 mod messages;
 mod protos;
+mod scalars;
 mod types;
 mod words;
 

@@ -1,6 +1,9 @@
 -- Which scalar a message is (this project's own schema): 1 a type, 2 a value, each of which must be there, and once.
---     IsPair            the message holds a type within the limits, and a value of at most 128 levels
+--     HoldsType         the message holds a type within the limits
+--     HoldsValue        the message holds a value of at most 128 levels
+--     IsPair            the message holds both
 --     IsReadScalar      what the answer of reading says
+--     IsReadPart        what the answer of reading a part says
 --     scalar_bytes      the message of a type and a value
 --     WritesScalar      what is written for a scalar
 use Rattle.std.specs.Prelude.{◌≡◌, ◌⊎◌, ◌≤◌, ℕ, List, ◌++◌, Some, Result, Ok, Err}
@@ -21,10 +24,16 @@ use Rattle.vortex_scalar.specs.RowOf.{row_of}
 use Rattle.vortex_scalar.specs.ScalarTerm.{ScalarTerm}
 use Rattle.vortex_scalar.specs.declared.schema.TheConstants.{SCALAR_DTYPE, SCALAR_VALUE}
 
--- the message holds this type, which is within the limits, and this value of at most 128 levels
+-- the message holds this type, which is within the limits
+abbrev pub HoldsType : List ℕ → Term → Type 0
+HoldsType b t = (part : List ℕ) × (message SCALAR_DTYPE b ≡ Some part) × IsTypeMessage part t × Bounded t
+
+-- the message holds this value, of at most 128 levels
+abbrev pub HoldsValue : List ℕ → ValueTerm → Type 0
+HoldsValue b v = (part : List ℕ) × (message SCALAR_VALUE b ≡ Some part) × IsValueMessage part v × (value_levels v ≤ 128)
+
 abbrev pub IsPair : List ℕ → Term → ValueTerm → Type 0
-IsPair b t v = (type value : List ℕ) × (message SCALAR_DTYPE b ≡ Some type) × IsTypeMessage type t × Bounded t
-    × (message SCALAR_VALUE b ≡ Some value) × IsValueMessage value v × (value_levels v ≤ 128)
+IsPair b t v = HoldsType b t × HoldsValue b v
 
 -- the scalar is of the type and has the row of the value; Malformed comes exactly where there is no such pair, and
 -- DoesNotFit exactly where the value does not fit the type, unless memory ran out
@@ -36,12 +45,18 @@ IsReadScalar (Err e) b =
     ⊎ ((e ≡ error.DoesNotFit)
     × ((t : Term) × (v : ValueTerm) × IsPair b t v × ((r : Row) → row_of t v ≡ Some r → Fits t r → ⊥)))
 
+-- the answer, seen by view, stands so; it is Malformed exactly where nothing does, unless memory ran out
+abbrev pub IsReadPart : {X Y : Type 0} → (X → Y) → Result X ScalarError → (Y → Type 0) → Type 0
+IsReadPart view (Ok x) Stands = Stands (view x)
+IsReadPart {Y = Y} view (Err e) Stands = (e ≡ error.OutOfMemory) ⊎ ((e ≡ error.Malformed) × ((y : Y) → Stands y → ⊥))
+
 -- the message of a type and a value
 abbrev pub scalar_bytes : Term → ValueTerm → List ℕ
 scalar_bytes t v = bytes_field SCALAR_DTYPE (type_bytes t) ++ bytes_field SCALAR_VALUE (value_bytes v)
 
--- the message of the type and of a value that is the row under it; TooLarge comes exactly where the type is outside the
--- limits, unless memory ran out
-abbrev pub WritesScalar : Result (List ℕ) ScalarError → ScalarTerm → Type 0
-WritesScalar (Ok b) s = Bounded s.dtype × ((v : ValueTerm) × (row_of s.dtype v ≡ Some s.row) × (b ≡ scalar_bytes s.dtype v))
-WritesScalar (Err e) s = (e ≡ error.OutOfMemory) ⊎ ((e ≡ error.TooLarge) × ¬ Bounded s.dtype)
+-- the bytes, seen by view, are the message of the type and of a value that is the row under it; TooLarge comes exactly
+-- where the type is outside the limits, unless memory ran out
+abbrev pub WritesScalar : {X : Type 0} → (X → List ℕ) → Result X ScalarError → ScalarTerm → Type 0
+WritesScalar view (Ok x) s =
+    Bounded s.dtype × ((v : ValueTerm) × (row_of s.dtype v ≡ Some s.row) × (view x ≡ scalar_bytes s.dtype v))
+WritesScalar view (Err e) s = (e ≡ error.OutOfMemory) ⊎ ((e ≡ error.TooLarge) × ¬ Bounded s.dtype)

@@ -7,6 +7,8 @@ mod hash;
 mod impls;
 mod inside;
 mod leaf;
+mod message;
+mod message_laws;
 mod nested;
 mod order;
 mod row_laws;
@@ -18,6 +20,7 @@ mod schema;
 mod tests;
 mod views;
 
+pub use message_laws::{written_rows_stay, written_scalars_are_read};
 pub use row_laws::rows_ignore_nullability;
 pub use scalar::Scalar;
 pub use scalar_type::ScalarType;

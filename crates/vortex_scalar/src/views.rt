@@ -28,3 +28,5 @@ pub use utf8::Utf8Scalar;
 
 #[cfg(test)]
 mod leaf_tests;
+#[cfg(test)]
+mod part_tests;

@@ -2,7 +2,8 @@
 
 ghost use Rattle.std.specs.Cmp.{partial_equiv_from_equiv};
 ghost use Rattle.std.specs.Prelude.{◌≡◌, IsTrue, IfOk, IsOkUnless};
-ghost use Rattle.vortex_terms.specs.Types.{is_extension};
+ghost use Rattle.vortex_terms.specs.Types.{is_extension, Legal};
+ghost use Rattle.vortex_terms.specs.Fits.{Fits};
 ghost use Rattle.vortex_types.specs.DTypes.{term_of};
 ghost use Rattle.vortex_types.specs.ExtTerm.{ext_type};
 ghost use Rattle.vortex_scalar.specs.LargeViews.{kept_if, storage_scalar};
@@ -96,6 +97,15 @@ impl<'a> ExtScalar<'a> {
         let dtype = shared_dtype(alloc, self.ext_dtype().storage_dtype())?;
         let value = self.fitting.value().try_clone(alloc)?;
         Ok(Scalar::new(dtype, value))
+    }
+
+    /// The type is a legal one, of an extension, and the row fits it. It does nothing when the program runs.
+    pub fn law(&self)
+        ensures kind { IsTrue (is_extension self.now.dtype) }
+        ensures legal { Legal self.now.dtype }
+        ensures fits { Fits self.now.dtype self.now.row }
+    {
+        self.fitting.law();
     }
 }
 

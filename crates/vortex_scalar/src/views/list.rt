@@ -3,6 +3,8 @@
 ghost use Rattle.std.specs.Cmp.{partial_equiv_from_equiv};
 ghost use Rattle.std.specs.Prelude.{◌≡◌, Some, IsTrue, IfOk, IsOkUnless, nat_eq};
 ghost use Rattle.std.specs.Option.{option_map};
+ghost use Rattle.vortex_terms.specs.Types.{Legal};
+ghost use Rattle.vortex_terms.specs.Fits.{Fits};
 ghost use Rattle.vortex_terms.specs.Row.{is_null};
 ghost use Rattle.vortex_types.specs.Accessors.{any_size_list_element_of};
 ghost use Rattle.vortex_types.specs.DTypes.{term_of};
@@ -117,6 +119,15 @@ impl<'a> ListScalar<'a> {
         ensures memory { IsOkUnless result ScalarError.OutOfMemory }
     {
         self.fitting.parts(alloc)
+    }
+
+    /// The type is a legal one of lists, and the row fits it. It does nothing when the program runs.
+    pub fn law(&self)
+        ensures kind { IsTrue (is_any_list self.now.dtype) }
+        ensures legal { Legal self.now.dtype }
+        ensures fits { Fits self.now.dtype self.now.row }
+    {
+        self.fitting.law();
     }
 }
 

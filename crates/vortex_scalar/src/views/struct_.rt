@@ -4,6 +4,8 @@ ghost use Rattle.std.specs.Cmp.{partial_equiv_from_equiv};
 ghost use Rattle.std.specs.Prelude.{◌≡◌, IsTrue, IfOk, IsOkUnless, map, ok_or, Ok, Err};
 ghost use Rattle.std.specs.Option.{option_map};
 ghost use Rattle.vortex_terms.specs.Types.{names_of};
+ghost use Rattle.vortex_terms.specs.Types.{Legal};
+ghost use Rattle.vortex_terms.specs.Fits.{Fits};
 ghost use Rattle.vortex_terms.specs.Row.{is_null};
 ghost use Rattle.vortex_terms.specs.StructFields.{projected};
 ghost use Rattle.vortex_types.specs.Accessors.{fields_of};
@@ -140,6 +142,15 @@ impl<'a> StructScalar<'a> {
         let value = self.fitting.value();
         let value = projected_value(alloc, self.struct_fields(), value, projection)?;
         Ok(Scalar::new(dtype, value))
+    }
+
+    /// The type is a legal one of structs, and the row fits it. It does nothing when the program runs.
+    pub fn law(&self)
+        ensures kind { IsTrue (is_struct self.now.dtype) }
+        ensures legal { Legal self.now.dtype }
+        ensures fits { Fits self.now.dtype self.now.row }
+    {
+        self.fitting.law();
     }
 }
 

@@ -1,0 +1,13 @@
+-- What is written for the type of a scalar.
+use Rattle.std.specs.Prelude.{◌≡◌, ◌⊎◌, ℕ, Result, Ok, Err}
+use Rattle.std.specs.Global.{Vec}
+use Rattle.vortex_terms.specs.Term.{Term}
+use Rattle.vortex_terms.specs.Types.{Bounded}
+use Rattle.vortex_proto.specs.TypeBytes.{type_bytes}
+use Rattle.vortex_scalar_value.specs.declared.error.ScalarError.{ScalarError}
+use Rattle.vortex_scalar_value.specs.declared.error.ScalarError.TheVariants as error
+
+-- the bytes are the message of the type; TooLarge comes exactly where it is outside the limits, unless memory ran out
+abbrev pub IsTypeWritten : Result (Vec ℕ) ScalarError → Term → Type 0
+IsTypeWritten (Ok v) t = (v.items ≡ type_bytes t) × Bounded t
+IsTypeWritten (Err e) t = (e ≡ error.OutOfMemory) ⊎ ((e ≡ error.TooLarge) × ¬ Bounded t)
