@@ -2,10 +2,11 @@
 -- row holds, none for null.
 --     whole_in, any_whole_in      a number of a kind, and of any kind
 --     is_whole                    whether a type is that of numbers of a kind
---     truth_in, text_in, bytes_in, decimal_in, rows_in      what else a scalar may hold
+--     truth_in, text_in, bytes_in, decimal_in, elements_in      what else a scalar may hold
 --     unit_in                     null
 --     not_null                    the same, null being refused
 --     as_length                   a number as a length, one below 0 being refused
+--     each                        the answers for each of a list, or the first refusal
 --     row_in                      the row of what a scalar holds
 --     list_in                     the rows of the elements of a list, each read so
 --     optional                    a row, or null

@@ -179,7 +179,8 @@ list_by_types read (fixed_size_list t l m) n r = refl
 pub list_either : (read : Reads) → IsEither (row_in list_of (list_in read))
 list_either read = list_by_types read
 
-both : (a b : Bool) (r : Row) (x y : Result Row ScalarError) → a ≡ b → x ≡ y → (if a then (if is_null r then Ok null_row else x) else Err error.WrongType) ≡ (if b then (if is_null r then Ok null_row else y) else Err error.WrongType)
+both : (a b : Bool) (r : Row) (x y : Result Row ScalarError) → a ≡ b → x ≡ y
+    → (if a then (if is_null r then Ok null_row else x) else Err error.WrongType) ≡ (if b then (if is_null r then Ok null_row else y) else Err error.WrongType)
 both a b r x y e f = λ i. if e i then (if is_null r then Ok null_row else f i) else Err error.WrongType
 
 pub optional_either : (takes : Term → Bool) (read : Reads) → IsEitherTaken takes → IsEither read → IsEither (optional takes read)
@@ -202,7 +203,8 @@ list_kept read t row_of kept xs =
     (ap (λ rs. each read (map (typed t) rs)) (row_list-from (map row_of xs)) ∙ each_kept read t row_of kept xs)
 
 -- a row is null, or it is read
-null_or_read : (b : Bool) (r : Row) (found : Result Row ScalarError) → b ≡ true → found ≡ Ok r → (if b then (if is_null r then Ok null_row else found) else Err error.WrongType) ≡ Ok r
+null_or_read : (b : Bool) (r : Row) (found : Result Row ScalarError) → b ≡ true → found ≡ Ok r
+    → (if b then (if is_null r then Ok null_row else found) else Err error.WrongType) ≡ Ok r
 null_or_read b null_row found e f = λ i. if e i then Ok null_row else Err error.WrongType
 null_or_read b (truth_row a) found e f = λ i. if e i then f i else Err error.WrongType
 null_or_read b (whole_row z) found e f = λ i. if e i then f i else Err error.WrongType

@@ -75,7 +75,8 @@ pub fn from_vec<T: NativeScalar>(alloc: Global, values: Vec<T>) -> Result<Scalar
 
 /// The scalars of values, in order.
 fn each_scalar<T: NativeScalar>(alloc: Global, values: Vec<T>) -> Result<Vec<Scalar>, ScalarError>
-    ensures scalars { IfOk result (λ v. v.items ≡ map (λ x. typed T.term (T.row_of x)) values.items) }
+    ensures scalars { IfOk result (λ v.
+        v.items ≡ map (λ x. typed T.term (T.row_of x)) values.items) }
     ensures memory { IsOkUnless result ScalarError.OutOfMemory }
 {
     let mut scalars = Vec::new(alloc);

@@ -46,7 +46,7 @@ pub trait NativeScalar: ScalarType + Drop {
     // The own type is taken.
     ghost own_taken: { takes Self.term ≡ true };
 
-    // Whether a type is nullable is no matter, neither for whether it is taken nor for what is read.
+    // Whether a type is nullable is no matter for whether it is taken, nor for what is read.
     ghost either_taken: { IsEitherTaken takes };
 
     ghost either: { IsEither reads };

@@ -3,7 +3,7 @@
 use crate::*;
 use std::alloc::Global;
 use std::test::*;
-use vortex_buffer::{BufferString, ByteBuffer};
+use vortex_buffer::{BufferError, BufferString, ByteBuffer};
 use vortex_names::{DTypeError, FieldNames, Nullability};
 use vortex_scalar::{Scalar, ScalarValue};
 use vortex_types::{DType, FieldDType, StructFields};
@@ -187,22 +187,42 @@ fn values_come_back(rt: HostRuntime) {
     assert!(rt; there_and_back::<Option<u8>>(alloc, None) == Ok(None));
 }
 
-/// Whether a text and its bytes come back.
-fn texts_come_back(alloc: Global, text: &str) -> Result<bool, ScalarError> {
-    let copied = there_and_back(alloc, String::from_str(alloc, text)?)?;
-    let shared = match BufferString::from_text(alloc, text) {
-        Ok(shared) => there_and_back(alloc, shared)?,
-        Err(_) => return Err(ScalarError::OutOfMemory),
-    };
-    let bytes = match ByteBuffer::from_slice(alloc, text.as_bytes()) {
-        Ok(bytes) => there_and_back(alloc, bytes)?,
-        Err(_) => return Err(ScalarError::OutOfMemory),
-    };
-    Ok(copied.as_str() == text && shared.as_str() == text && bytes.as_slice() == text.as_bytes())
+/// Whether a copied text comes back.
+fn copied_comes_back(alloc: Global, text: &str) -> Result<bool, ScalarError> {
+    let back = there_and_back(alloc, String::from_str(alloc, text)?)?;
+    Ok(back.as_str() == text)
+}
+
+/// Whether a shared text comes back.
+fn shared_comes_back(
+    alloc: Global,
+    made: Result<BufferString, BufferError>,
+    text: &str,
+) -> Option<bool> {
+    match there_and_back(alloc, made.ok()?) {
+        Ok(back) => Some(back.as_str() == text),
+        Err(_) => None,
+    }
+}
+
+/// Whether shared bytes come back.
+fn bytes_come_back(
+    alloc: Global,
+    made: Result<ByteBuffer, BufferError>,
+    bytes: &[u8],
+) -> Option<bool> {
+    match there_and_back(alloc, made.ok()?) {
+        Ok(back) => Some(back.as_slice() == bytes),
+        Err(_) => None,
+    }
 }
 
 #[test]
 fn owned_texts_come_back(rt: HostRuntime) {
-    assert!(rt; texts_come_back(rt.alloc(), "aß") == Ok(true));
-    assert!(rt; texts_come_back(rt.alloc(), "") == Ok(true));
+    let alloc = rt.alloc();
+    let text = BufferString::from_text(alloc, "aß");
+    let bytes = ByteBuffer::from_slice(alloc, &[0, 255]);
+    assert!(rt; copied_comes_back(alloc, "aß") == Ok(true));
+    assert!(rt; shared_comes_back(alloc, text, "aß") == Some(true));
+    assert!(rt; bytes_come_back(alloc, bytes, &[0, 255]) == Some(true));
 }
