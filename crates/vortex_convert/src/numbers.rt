@@ -8,7 +8,7 @@ ghost use Rattle.vortex_number.specs.WholeKind.{whole_kind};
 ghost use Rattle.vortex_convert.specs.Conversions.{Tells, whole_in, any_whole_in};
 ghost use Rattle.vortex_convert.specs.Conversions.{not_null, as_length};
 
-use vortex_scalar::{Scalar, ScalarError, ValueRef};
+use vortex_scalar::{Scalar, ScalarError};
 use vortex_types::DType;
 use vortex_value::NativePType;
 
@@ -16,12 +16,10 @@ use vortex_value::NativePType;
 fn to_native_opt<T: NativePType>(scalar: &Scalar) -> Result<Option<T>, ScalarError>
     ensures { Tells (option_map T.number) result (whole_in (whole_kind T.PTYPE) scalar.now) }
 {
-    scalar.law();
     match scalar.dtype() {
-        DType::Primitive(ptype, _) if *ptype == T::PTYPE => match scalar.value().value_ref() {
-            ValueRef::Primitive(value) => Ok(Some(value.as_primitive::<T>())),
-            _ => Ok(None),
-        },
+        DType::Primitive(ptype, _) if *ptype == T::PTYPE => {
+            Ok(scalar.as_primitive().typed_value::<T>())
+        }
         _ => Err(ScalarError::WrongType),
     }
 }
@@ -164,15 +162,15 @@ pub fn to_usize(scalar: &Scalar) -> Result<usize, ScalarError>
 pub fn to_usize_opt(scalar: &Scalar) -> Result<Option<usize>, ScalarError>
     ensures { result ≡ as_length (any_whole_in scalar.now) }
 {
-    scalar.law();
-    match scalar.dtype() {
-        DType::Primitive(_, _) => match scalar.value().value_ref() {
-            ValueRef::Primitive(value) => match value.try_usize() {
-                Ok(number) => Ok(Some(number)),
-                Err(_) => Err(ScalarError::OutOfRange),
-            },
-            _ => Ok(None),
+    let number = match scalar.as_primitive_opt() {
+        Some(number) => number,
+        None => return Err(ScalarError::WrongType),
+    };
+    match number.pvalue() {
+        Some(value) => match value.try_usize() {
+            Ok(length) => Ok(Some(length)),
+            Err(_) => Err(ScalarError::OutOfRange),
         },
-        _ => Err(ScalarError::WrongType),
+        None => Ok(None),
     }
 }

@@ -3,8 +3,7 @@
 ghost use Rattle.std.specs.Prelude.{◌≡◌};
 ghost use Rattle.vortex_convert.specs.Conversions.{truth_in, unit_in, not_null};
 
-use vortex_scalar::{Scalar, ScalarError, ValueRef};
-use vortex_types::DType;
+use vortex_scalar::{Scalar, ScalarError};
 
 /// The truth value of a scalar of Bool. Another type is a WrongType, and null is IsNull.
 pub fn to_bool(scalar: &Scalar) -> Result<bool, ScalarError>
@@ -20,12 +19,9 @@ pub fn to_bool(scalar: &Scalar) -> Result<bool, ScalarError>
 pub fn to_bool_opt(scalar: &Scalar) -> Result<Option<bool>, ScalarError>
     ensures { result ≡ truth_in scalar.now }
 {
-    match scalar.dtype() {
-        DType::Bool(_) => match scalar.value().value_ref() {
-            ValueRef::Bool(value) => Ok(Some(value)),
-            _ => Ok(None),
-        },
-        _ => Err(ScalarError::WrongType),
+    match scalar.as_bool_opt() {
+        Some(truth) => Ok(truth.value()),
+        None => Err(ScalarError::WrongType),
     }
 }
 
