@@ -3,7 +3,6 @@
 ghost use Rattle.std.specs.Prelude.{◌≡◌, false, refl, map, IfOk, IsOkUnless};
 ghost use Rattle.std.specs.Option.{option_map};
 ghost use Rattle.vortex_terms.specs.Term.{list};
-ghost use Rattle.vortex_types.specs.DTypes.{term_of};
 ghost use Rattle.vortex_scalar.specs.Answers.{Answers};
 ghost use Rattle.vortex_scalar.specs.LargeViews.{is_any_list};
 ghost use Rattle.vortex_scalar.specs.Made.{typed};

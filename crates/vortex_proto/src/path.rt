@@ -1,6 +1,5 @@
 //! A path of names as a message.
 
-ghost use Rattle.std.specs.Prelude.{◌≡◌};
 ghost use Rattle.vortex_wire.specs.Finds.{Finds, FindsInMemory, all_bytes_of, bytes_of};
 ghost use Rattle.vortex_proto.specs.PathMessage.{name_in, names_in, path_in};
 

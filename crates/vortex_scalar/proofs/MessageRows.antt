@@ -1,10 +1,10 @@
 -- What reading a value that was written leaves of its row, and how deep a value nests that has a row.
 --     row_stays         the row is the same
 --     row_levels        no deeper than the type
-use Rattle.std.proofs.Common.{◌≡◌, ℕ, suc, ◌+◌, ◌≤◌, max, ℤ, true, Option, Some, None, refl, ap, arith, length}
-use Rattle.std.specs.Prelude.{IfSome, option_map, List}
+use Rattle.std.proofs.Common.{◌≡◌, ℕ, suc, ◌+◌, ◌≤◌, max, ℤ, true, Option, Some, None, refl, ap, arith}
+use Rattle.std.specs.Prelude.{option_map}
 use Rattle.std.specs.Int.{w8, w16, w32, w64, w128}
-use Rattle.vortex_number.specs.Format.{signed, fits, bytes_of, le_bytes, number_with_bytes}
+use Rattle.vortex_number.specs.Format.{signed, fits, le_bytes}
 use Rattle.vortex_number.specs.inner.FormatLaws.{number_with_bytes-bytes_of}
 use Rattle.vortex_value.specs.DecimalValue.{decimal_format}
 use Rattle.vortex_value.specs.declared.decimal.DecimalValueType.{DecimalValueType}

@@ -9,6 +9,8 @@ mod inside;
 mod leaf;
 mod message;
 mod message_laws;
+#[cfg(test)]
+mod message_tests;
 mod nested;
 mod order;
 mod row_laws;

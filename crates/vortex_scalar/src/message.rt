@@ -3,8 +3,6 @@
 ghost use Rattle.std.specs.Prelude.{◌≡◌, ◌≤◌, ◌++◌, Ok, IfOk, IsOkUnless};
 ghost use Rattle.vortex_wire.specs.Field.{bytes_field};
 ghost use Rattle.vortex_types.specs.DTypes.{term_of};
-ghost use Rattle.vortex_terms.specs.Types.{Bounded};
-ghost use Rattle.vortex_proto.specs.TypeBytes.{type_bytes};
 ghost use Rattle.vortex_scalar_value.specs.Held.{IsHeld};
 ghost use Rattle.vortex_scalar_value.specs.Value.{value_levels};
 ghost use Rattle.vortex_scalar_value.specs.ValueBytes.{value_bytes};

@@ -1,6 +1,6 @@
 //! Values read from messages.
 
-ghost use Rattle.std.specs.Prelude.{◌≡◌, pos};
+ghost use Rattle.std.specs.Prelude.{◌≡◌};
 ghost use Rattle.vortex_wire.specs.Field.{field_of};
 ghost use Rattle.vortex_scalar_value.specs.Reading.{inside_value, list_in, member_in};
 ghost use Rattle.vortex_scalar_value.specs.Reading.{text_in, value_in, value_of_message, varint_value};

@@ -21,7 +21,7 @@ pub struct BoolScalar<'a> {
 }
 
 impl<'a> BoolScalar<'a> {
-    ghost use Rattle.std.specs.Prelude.{◌≡◌, not};
+    ghost use Rattle.std.specs.Prelude.{◌≡◌};
     ghost use Rattle.std.specs.Option.{option_map};
     ghost use Rattle.vortex_scalar.specs.ViewRows.{view_of, inverted, Shows};
     ghost use Rattle.vortex_terms.specs.Types.{Legal};

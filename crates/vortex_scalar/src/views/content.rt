@@ -1,6 +1,6 @@
 //! The bytes of values that are texts or bytes.
 
-ghost use Rattle.std.specs.Prelude.{◌≡◌, fold, IfOk, IfSome, IsOkUnless};
+ghost use Rattle.std.specs.Prelude.{◌≡◌, IfOk, IfSome, IsOkUnless};
 ghost use Rattle.std.specs.Option.{option_copied, option_map};
 ghost use Rattle.std.specs.Str.{IsUtf8};
 ghost use Rattle.vortex_terms.specs.Row.{bytes_row};

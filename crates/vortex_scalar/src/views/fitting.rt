@@ -1,7 +1,7 @@
 //! A type and a value that fits it, both lent.
 
-ghost use Rattle.std.specs.Prelude.{IsTrue, ◌≡◌, ok_or, fold, Some, IfOk, IsOkUnless, slice_get, length};
-ghost use Rattle.std.specs.Option.{IsSome, option_copied, option_map, option_map_or};
+ghost use Rattle.std.specs.Prelude.{IsTrue, ◌≡◌, ok_or, fold, Some, IfOk, IsOkUnless};
+ghost use Rattle.std.specs.Option.{IsSome, option_copied, option_map};
 ghost use Rattle.vortex_terms.specs.Types.{Legal, field_at};
 ghost use Rattle.vortex_terms.specs.Row.{is_null, bytes_row};
 ghost use Rattle.vortex_terms.specs.Fits.{Fits};
