@@ -2,4 +2,4 @@ pub mod Inside
 pub mod Held
 pub mod Kept
 pub mod Parts
-pub mod TypeWritten
+pub mod PartAnswers
