@@ -3,7 +3,6 @@
 --     HoldsValue        the message holds a value of at most 128 levels
 --     IsPair            the message holds both
 --     IsReadScalar      what the answer of reading says
---     IsReadPart        what the answer of reading a part says
 --     scalar_bytes      the message of a type and a value
 --     WritesScalar      what is written for a scalar
 use Rattle.std.specs.Prelude.{◌≡◌, ◌⊎◌, ◌≤◌, ℕ, List, ◌++◌, Some, Result, Ok, Err}
@@ -44,11 +43,6 @@ IsReadScalar (Err e) b =
     ⊎ ((e ≡ error.Malformed) × ((t : Term) (v : ValueTerm) → IsPair b t v → ⊥))
     ⊎ ((e ≡ error.DoesNotFit)
     × ((t : Term) × (v : ValueTerm) × IsPair b t v × ((r : Row) → row_of t v ≡ Some r → Fits t r → ⊥)))
-
--- the answer, seen by view, stands so; it is Malformed exactly where nothing does, unless memory ran out
-abbrev pub IsReadPart : {X Y : Type 0} → (X → Y) → Result X ScalarError → (Y → Type 0) → Type 0
-IsReadPart view (Ok x) Stands = Stands (view x)
-IsReadPart {Y = Y} view (Err e) Stands = (e ≡ error.OutOfMemory) ⊎ ((e ≡ error.Malformed) × ((y : Y) → Stands y → ⊥))
 
 -- the message of a type and a value
 abbrev pub scalar_bytes : Term → ValueTerm → List ℕ

@@ -4,3 +4,4 @@ pub mod Kept
 pub mod Parts
 pub mod HeldValues
 pub mod TypeWritten
+pub mod PartAnswers

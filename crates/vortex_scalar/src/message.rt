@@ -7,8 +7,8 @@ ghost use Rattle.vortex_scalar_value.specs.Held.{IsHeld};
 ghost use Rattle.vortex_scalar_value.specs.Value.{value_levels};
 ghost use Rattle.vortex_scalar_value.specs.ValueBytes.{value_bytes};
 ghost use Rattle.vortex_scalar.specs.ScalarMessage.{HoldsType, HoldsValue};
-ghost use Rattle.vortex_scalar.specs.ScalarMessage.{IsReadPart, IsReadScalar, WritesScalar};
-ghost use Rattle.vortex_scalar.specs.inner.TypeWritten.{IsTypeWritten};
+ghost use Rattle.vortex_scalar.specs.ScalarMessage.{IsReadScalar, WritesScalar};
+ghost use Rattle.vortex_scalar.specs.inner.PartAnswers.{IsReadPart, IsTypeWritten};
 
 use crate::scalar::Scalar;
 use crate::schema::{SCALAR_DTYPE, SCALAR_VALUE};
