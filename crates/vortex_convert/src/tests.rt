@@ -226,3 +226,23 @@ fn owned_texts_come_back(rt: HostRuntime) {
     assert!(rt; shared_comes_back(alloc, text, "aß") == Some(true));
     assert!(rt; bytes_come_back(alloc, bytes, &[0, 255]) == Some(true));
 }
+
+/// The truth value in the scalar that the trait makes.
+fn truth_by_trait(alloc: Global, value: bool) -> Option<bool> {
+    to_bool(&value.into_scalar(alloc).ok()?).ok()
+}
+
+/// The number in the scalar that the trait makes of one that may be null.
+fn number_by_trait(alloc: Global, value: Option<u8>) -> Option<Option<u8>> {
+    to_u8_opt(&value.into_scalar(alloc).ok()?).ok()
+}
+
+#[test]
+fn the_trait_keeps_values(rt: HostRuntime) {
+    let alloc = rt.alloc();
+    assert!(rt; truth_by_trait(alloc, true) == Some(true));
+    assert!(rt; number_by_trait(alloc, Some(5)) == Some(Some(5)));
+    assert!(rt; number_by_trait(alloc, None) == Some(None));
+    assert!(rt; Option::<u8>::from_scalar(alloc, &from_native(5u8)) == Ok(Some(5)));
+    assert!(rt; bool::from_scalar(alloc, &from_bool(true)) == Ok(true));
+}

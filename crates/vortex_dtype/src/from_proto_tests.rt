@@ -142,6 +142,32 @@ fn messages_of_parts_are_read(rt: HostRuntime) {
     assert!(rt; has_text(alloc, &extension, "ext(x, null)?"));
 }
 
+#[test]
+fn the_last_of_several_counts(rt: HostRuntime) {
+    let alloc = rt.alloc();
+    let ids = [
+        0x4A, 0x0A, 0x0A, 0x01, 0x78, 0x0A, 0x01, 0x79, 0x12, 0x02, 0x0A, 0x00,
+    ];
+    assert!(rt; has_text(alloc, &ids, "ext(y, null)?"));
+    let metadata = [
+        0x4A, 0x0D, 0x0A, 0x01, 0x78, 0x12, 0x02, 0x0A, 0x00, 0x1A, 0x01, 0x07, 0x1A, 0x01, 0x08,
+    ];
+    assert!(rt; has_text(alloc, &metadata, "ext(x, null, [8])?"));
+    // A flag looks at the whole varint, here 2^32.
+    assert!(rt;
+        has_text(
+            alloc,
+            &[0x12, 0x06, 0x08, 0x80, 0x80, 0x80, 0x80, 0x10],
+            "bool?"
+        )
+    );
+    // An earlier text must be a text too.
+    let damaged = [
+        0x4A, 0x0A, 0x0A, 0x01, 0xFF, 0x0A, 0x01, 0x79, 0x12, 0x02, 0x0A, 0x00,
+    ];
+    assert!(rt; is_refused(alloc, &damaged));
+}
+
 /// The message of a type of lists, of so many levels.
 fn nested(alloc: Global, levels: usize) -> Result<Vec<u8>, WireError> {
     let mut message = Vec::new(alloc);

@@ -15,6 +15,7 @@ use Rattle.vortex_terms.specs.Fits.{Fits}
 use Rattle.vortex_proto.specs.TypeMessage.{IsTypeMessage}
 use Rattle.vortex_proto.specs.TypeBytes.{type_bytes}
 use Rattle.vortex_scalar_value.specs.Value.{ValueTerm, value_levels}
+use Rattle.vortex_scalar_value.specs.Standing.{most_levels}
 use Rattle.vortex_scalar_value.specs.ValueMessage.{IsValueMessage}
 use Rattle.vortex_scalar_value.specs.ValueBytes.{value_bytes}
 use Rattle.vortex_scalar_value.specs.declared.error.ScalarError.{ScalarError}
@@ -29,7 +30,7 @@ HoldsType b t = (part : List ℕ) × (message SCALAR_DTYPE b ≡ Some part) × I
 
 -- the message holds this value, of at most 128 levels
 abbrev pub HoldsValue : List ℕ → ValueTerm → Type 0
-HoldsValue b v = (part : List ℕ) × (message SCALAR_VALUE b ≡ Some part) × IsValueMessage part v × (value_levels v ≤ 128)
+HoldsValue b v = (part : List ℕ) × (message SCALAR_VALUE b ≡ Some part) × IsValueMessage part v × (value_levels v ≤ most_levels)
 
 abbrev pub IsPair : List ℕ → Term → ValueTerm → Type 0
 IsPair b t v = HoldsType b t × HoldsValue b v

@@ -30,7 +30,8 @@ impl Scalar {
     }
 
     /// The bytes of a Protocol Buffers message that stands for the scalar. TooLarge where the type
-    /// is outside the limits.
+    /// is outside the limits. Equal scalars may be written otherwise, since the form in which a
+    /// value is kept is free.
     pub fn to_proto(&self, alloc: Global) -> Result<Vec<u8>, ScalarError>
         ensures written { WritesScalar (λ v. v.items) result self.now }
         ensures read { IfOk result (λ v. IsReadScalar (Ok self.now) v.items) }

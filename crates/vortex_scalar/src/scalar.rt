@@ -65,7 +65,7 @@ impl Scalar {
         &self.dtype
     }
 
-    /// The value.
+    /// The value. In which form a row is kept is free: a number may be of another kind, and a text bytes.
     pub fn value(&self) -> &ScalarValue
         ensures { row_of self.now.dtype result.now ≡ Some self.now.row }
     {
@@ -80,7 +80,7 @@ impl Scalar {
         (&self.dtype, &self.value)
     }
 
-    /// The type and the value.
+    /// The type and the value, whose form is free.
     pub fn into_parts(self) -> (DType, ScalarValue)
         ensures dtype { term_of result.0 ≡ self.dtype }
         ensures value { row_of self.dtype result.1 ≡ Some self.row }
@@ -95,7 +95,7 @@ impl Scalar {
         self.dtype
     }
 
-    /// The value.
+    /// The value, whose form is free.
     pub fn into_value(self) -> ScalarValue
         ensures { row_of self.dtype result ≡ Some self.row }
     {

@@ -5,6 +5,7 @@ ghost use Rattle.vortex_scalar.specs.RowOf.{fitting_row};
 use crate::fit::fits;
 use crate::hash::hash_row;
 use crate::order::compare;
+use crate::scalar::Scalar;
 use std::alloc::Global;
 use std::cmp::Ordering;
 use std::hash::{DefaultHasher, Hasher};
@@ -270,6 +271,17 @@ fn equal_rows_hash_alike(rt: HostRuntime) {
     let five = ScalarValue::from_pvalue(PValue::U64(5));
     assert!(rt; hashed(&number, &int(5)) == hashed(&number, &five));
     assert!(rt; hashed(&number, &int(5)) != hashed(&number, &int(6)));
+    let truth = DType::Bool(NOT);
+    let yes = ScalarValue::from_bool(true);
+    assert!(rt; hashed(&truth, &yes) != hashed(&truth, &ScalarValue::from_bool(false)));
+    assert_eq!(rt;
+        hash_alike(
+            Ok(DType::Utf8(NOT)),
+            ScalarValue::from_text(alloc, "a"),
+            ScalarValue::from_text(alloc, "b")
+        ),
+        Some(false)
+    );
     assert_eq!(rt;
         hash_alike(
             Ok(DType::Binary(NOT)),
@@ -290,4 +302,10 @@ fn equal_rows_hash_alike(rt: HostRuntime) {
         ),
         Some(true)
     );
+}
+
+#[test]
+fn bytes_that_are_no_text_are_refused(rt: HostRuntime) {
+    let refusal = Scalar::try_utf8(rt.alloc(), &[0xFF], NOT).err();
+    assert_eq!(rt; refusal, Some(ScalarError::WrongType));
 }

@@ -10,7 +10,9 @@ mod value_ref;
 mod writing;
 
 pub use error::ScalarError;
-pub use laws::{found_values_stand, one_value_stands, written_values_stand};
+pub use laws::{
+    found_values_stand, one_value_stands, small_values_are_written, written_values_stand,
+};
 pub use scalar_value::ScalarValue;
 pub use schema::value_schema;
 pub use value_ref::ValueRef;

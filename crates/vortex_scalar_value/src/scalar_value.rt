@@ -133,7 +133,7 @@ impl ScalarValue {
         }
     }
 
-    /// Bytes, shared.
+    /// Bytes, shared. Contracts see no alignment.
     pub fn from_buffer(buffer: ByteBuffer) -> ScalarValue
         ensures { result ≡ bytes_value buffer.bytes }
     {
@@ -142,7 +142,7 @@ impl ScalarValue {
         }
     }
 
-    /// A text, shared.
+    /// A text, shared. Contracts see no alignment.
     pub fn from_buffer_string(text: BufferString) -> ScalarValue
         ensures { result ≡ text_value text.bytes }
     {

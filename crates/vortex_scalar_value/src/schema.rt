@@ -1,6 +1,7 @@
 //! The numbers of the fields of the message of a value.
 
 ghost use Rattle.std.specs.Prelude.{◌≡◌};
+ghost use Rattle.vortex_scalar_value.specs.Standing.{most_levels};
 
 /// The least number of a member.
 pub(crate) const FIRST_MEMBER: u32 = 1;
@@ -32,4 +33,5 @@ pub fn value_schema()
     ensures numbers { (INT64 ≡ 3) × (UINT64 ≡ 4) }
     ensures bytes { (STRING ≡ 7) × (BYTES ≡ 8) }
     ensures lists { (LIST ≡ 9) × (LIST_VALUES ≡ 1) }
+    ensures levels { most_levels ≡ 128 }
 {}

@@ -185,3 +185,25 @@ fn levels(rt: HostRuntime) {
     assert_eq!(rt; nested_faults(alloc, 127), Ok((0, 0)));
     assert_eq!(rt; nested_faults(alloc, 128), Ok((13, 10)));
 }
+
+#[test]
+fn errors_have_their_numbers(rt: HostRuntime) {
+    let errors = [
+        ScalarError::DoesNotFit,
+        ScalarError::WrongType,
+        ScalarError::IsNull,
+        ScalarError::CastNull,
+        ScalarError::CastKind,
+        ScalarError::CastRange,
+        ScalarError::CastLength,
+        ScalarError::CastFields,
+        ScalarError::FieldNotFound,
+        ScalarError::Malformed,
+        ScalarError::OutOfRange,
+        ScalarError::OutOfMemory,
+        ScalarError::TooLarge,
+    ];
+    for (i, error) in errors.iter().enumerate() {
+        assert_eq!(rt; error.number() as usize, i + 1);
+    }
+}
