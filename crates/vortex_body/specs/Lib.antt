@@ -1,0 +1,4 @@
+pub mod Node
+pub mod Body
+pub mod Reading
+pub mod Answers

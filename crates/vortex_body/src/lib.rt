@@ -1,0 +1,9 @@
+//! The bodies of array messages: trees of nodes, without types and rows.
+#![tactic(auto)]
+
+mod error;
+mod laws;
+pub mod schema;
+
+pub use error::BodyError;
+pub use laws::{bodies_are_found, found_nodes_stand, one_node_stands, standing_nodes_are_found};
