@@ -42,7 +42,7 @@ more_there : (b : List ℕ) (read : Reader) (v : VectorShape) (i left p : ℕ) (
 unfolding children_at child_at
 more_there b read v i left p n ns t e h = rw (t, e, h) (ap (and_left (child n ns)) (let same : left - node_count n - nodes_count ns ≡ left - (node_count n + nodes_count ns) = omega arith in same))
 
-one_level : (b : List ℕ) (buffers : List (List ℕ)) (n left p : ℕ) → 1 ≤ n → node_at b buffers n left p ≡ one_node_at b buffers (node_at b buffers (n - 1)) left p
+pub one_level : (b : List ℕ) (buffers : List (List ℕ)) (n left p : ℕ) → 1 ≤ n → node_at b buffers n left p ≡ one_node_at b buffers (node_at b buffers (n - 1)) left p
 unfolding node_at
 one_level b buffers zero left p h = absurd (omega arith)
 one_level b buffers (suc n) left p h = ap (λ m. one_node_at b buffers (node_at b buffers m) left p) (let same : n ≡ suc n - 1 = omega arith in same)

@@ -2,3 +2,4 @@ pub mod Node
 pub mod Body
 pub mod Reading
 pub mod Answers
+pub mod inner

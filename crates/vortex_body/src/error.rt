@@ -1,12 +1,10 @@
 //! Why a body could not be read.
 
 ghost use Rattle.std.specs.Prelude.{◌≡◌};
-ghost use Rattle.vortex_body.specs.declared.error.BodyError.TheVariants.{Malformed, OutOfMemory};
-ghost use Rattle.vortex_flat.specs.declared.error.FlatError.TheVariants.{Outside};
+ghost use Rattle.vortex_body.specs.declared.error.BodyError.TheVariants.{OutOfMemory};
 
 use std::alloc::{AllocError, AllocFailed};
 use thiserror::Error;
-use vortex_flat::FlatError;
 
 /// Why a body could not be read.
 #[derive(Clone, Copy, Debug, PartialEq, Eq, Error)]
@@ -16,17 +14,6 @@ pub enum BodyError {
     Malformed,
     #[error("out of memory")]
     OutOfMemory,
-}
-
-impl From<FlatError> for BodyError {
-    ghost from_gives = { λ given e. given ≡ Outside → e ≡ Malformed };
-
-    fn from(error: FlatError) -> BodyError {
-        match error {
-            FlatError::Outside | FlatError::TooLong => BodyError::Malformed,
-            FlatError::OutOfMemory => BodyError::OutOfMemory,
-        }
-    }
 }
 
 impl From<AllocError> for BodyError {

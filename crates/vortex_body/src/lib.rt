@@ -4,6 +4,8 @@
 mod error;
 mod laws;
 pub mod schema;
+mod tables;
+mod walk;
 
 pub use error::BodyError;
 pub use laws::{bodies_are_found, found_nodes_stand, one_node_stands, standing_nodes_are_found};
