@@ -6,7 +6,7 @@ use Rattle.vortex_flat.specs.Targets.{root_place, table_field}
 use Rattle.vortex_flat.proofs.TableLemmas.{bind_some}
 use Rattle.vortex_body.specs.Body.{BodyParts, IsBody, body_parts, buffers_of}
 use Rattle.vortex_body.specs.Node.{Node, node_count, most_levels, most_nodes}
-use Rattle.vortex_body.specs.Reading.{Found, node_at, node_in, node_of}
+use Rattle.vortex_body.specs.Reading.{Found, bounded_node_at, node_at, node_in, node_of}
 use Rattle.vortex_body.specs.declared.schema.TheConstants.{ROOT_NODE}
 use Rattle.vortex_body.proofs.Found.{node_found}
 use Rattle.vortex_body.proofs.Standing.{node_stands}
@@ -21,7 +21,7 @@ flattened (Some None) x e = absurd cc
 flattened (Some (Some y)) x e = ap Some e
 
 in_parts : (body : List ℕ) (parts : BodyParts) (n : Node) → body_parts body ≡ Some parts → node_in parts ≡ Some n → IsBody body n
-unfolding node_in
+unfolding node_in bounded_node_at
 in_parts body parts n is e =
     let root = bind_some (root_place parts.flat) (λ root. option_and_then (λ buffers. option_and_then (λ place. option_map (λ f. f.found) (node_at parts.flat buffers most_levels most_nodes place)) (option_flatten (table_field parts.flat root ROOT_NODE))) (buffers_of parts root)) n e in
     let buffers = bind_some (buffers_of parts root.0) (λ buffers. option_and_then (λ place. option_map (λ f. f.found) (node_at parts.flat buffers most_levels most_nodes place)) (option_flatten (table_field parts.flat root.0 ROOT_NODE))) n root.2 in
@@ -49,7 +49,7 @@ found_is body n e =
 
 there : (parts : BodyParts) (root place : ℕ) (buffers : List (List ℕ)) (n : Node) (left : ℕ) → root_place parts.flat ≡ Some root → buffers_of parts root ≡ Some buffers → table_field parts.flat root ROOT_NODE ≡ Some (Some place) → node_at parts.flat buffers most_levels most_nodes place ≡ Some (record { found = n; left = left })
     → node_in parts ≡ Some n
-unfolding node_in
+unfolding node_in bounded_node_at
 there parts root place buffers n left r bs p e = rw (r, bs, p, e) refl
 
 pub is_found : (body : List ℕ) (n : Node) → IsBody body n → node_of body ≡ Some n

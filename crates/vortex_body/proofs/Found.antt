@@ -34,14 +34,14 @@ one_node left rest e =
     omega (arith, g.1)
 
 -- what a node has beside its children, and its places
-record ByOwn (b : List ℕ) (buffers : List (List ℕ)) (p : ℕ) (own : Own) : Type 0 where
-  places : VectorShape
-  encoding_is : or_zero (number_field b p NODE_ENCODING 2) ≡ Some own.encoding
-  metadata_is : or_else [] (bytes_field b p NODE_METADATA) ≡ Some own.metadata
-  places_are : or_empty 4 (vector_field b p NODE_BUFFERS 4) ≡ Some places
-  named_are : named_buffers b buffers places ≡ Some own.buffers
+pub record ByOwn (b : List ℕ) (buffers : List (List ℕ)) (p : ℕ) (own : Own) : Type 0 where
+  pub places : VectorShape
+  pub encoding_is : or_zero (number_field b p NODE_ENCODING 2) ≡ Some own.encoding
+  pub metadata_is : or_else [] (bytes_field b p NODE_METADATA) ≡ Some own.metadata
+  pub places_are : or_empty 4 (vector_field b p NODE_BUFFERS 4) ≡ Some places
+  pub named_are : named_buffers b buffers places ≡ Some own.buffers
 
-by_own : (b : List ℕ) (buffers : List (List ℕ)) (p : ℕ) (own : Own) → own_at b buffers p ≡ Some own → ByOwn b buffers p own
+pub by_own : (b : List ℕ) (buffers : List (List ℕ)) (p : ℕ) (own : Own) → own_at b buffers p ≡ Some own → ByOwn b buffers p own
 unfolding own_at
 by_own b buffers p own e =
     let m = bind_some (or_zero (number_field b p NODE_ENCODING 2)) (λ m. option_and_then (λ metadata. option_and_then (λ v. option_and_then (λ named. Some (record { encoding = m; metadata = metadata; buffers = named })) (named_buffers b buffers v)) (or_empty 4 (vector_field b p NODE_BUFFERS 4))) (or_else [] (bytes_field b p NODE_METADATA))) own e in

@@ -1,6 +1,7 @@
 -- The node of an array as a term: what a body says of it, whatever its encoding means.
 --     Node, Nodes             a node, and the children of one
 --     nodes_from, child_count     children from a list, and how many they are
+--     node_encoding, node_metadata, node_children, node_buffers      its parts
 --     node_levels, node_count     how deep a node nests, and how many nodes it has in it
 --     IsWithinLimits          both are within the limits of a body
 --     coded_node, coded_nodes     the codes, so that a struct's model may be one
@@ -19,6 +20,19 @@ mutual
   pub data Nodes : Type 0 where
     no_nodes : Nodes
     child : Node → Nodes → Nodes
+
+-- the place of the encoding among the names of the header
+abbrev pub node_encoding : Node → ℕ
+node_encoding (node e m cs bs) = e
+
+abbrev pub node_metadata : Node → List ℕ
+node_metadata (node e m cs bs) = m
+
+abbrev pub node_children : Node → Nodes
+node_children (node e m cs bs) = cs
+
+abbrev pub node_buffers : Node → List (List ℕ)
+node_buffers (node e m cs bs) = bs
 
 -- the nodes of a list
 abbrev pub nodes_from : List Node → Nodes

@@ -67,13 +67,17 @@ unfoldable pub node_at : List ℕ → List (List ℕ) → ℕ → Reader
 node_at b buffers zero left p = None
 node_at b buffers (suc levels) left p = one_node_at b buffers (node_at b buffers levels) left p
 
+-- the node at place p, where one stands within the limits
+unfoldable pub bounded_node_at : List ℕ → List (List ℕ) → ℕ → Option Node
+bounded_node_at b buffers p = option_map (λ f. f.found) (node_at b buffers most_levels most_nodes p)
+
 -- the node of the parts of a body, where they stand for one within the limits
 unfoldable pub node_in : BodyParts → Option Node
 node_in parts = do
   root ← root_place parts.flat
   buffers ← buffers_of parts root
   place ← option_flatten (table_field parts.flat root ROOT_NODE)
-  option_map (λ f. f.found) (node_at parts.flat buffers most_levels most_nodes place)
+  bounded_node_at parts.flat buffers place
 
 -- the node of a body, where it stands for one within the limits
 unfoldable pub node_of : List ℕ → Option Node
