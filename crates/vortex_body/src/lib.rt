@@ -14,3 +14,6 @@ mod walk;
 pub use error::BodyError;
 pub use laws::{bodies_are_found, found_nodes_stand, one_node_stands, standing_nodes_are_found};
 pub use parts::NodeParts;
+
+#[cfg(test)]
+mod tests;
