@@ -1,0 +1,5 @@
+pub mod Node
+pub mod Body
+pub mod Reading
+pub mod Answers
+pub mod inner
