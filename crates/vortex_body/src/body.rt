@@ -2,7 +2,7 @@
 
 ghost use Rattle.std.specs.Prelude.{◌≡◌};
 ghost use Rattle.vortex_body.specs.Answers.{Answers};
-ghost use Rattle.vortex_body.specs.Body.{body_parts, buffers_in, buffers_of, descriptor_of, descriptors_in};
+ghost use Rattle.vortex_body.specs.Body.{body_parts, buffers_of, descriptor_of, descriptors_in};
 ghost use Rattle.vortex_body.specs.Reading.{bounded_node_at, node_in, node_of};
 ghost use Rattle.vortex_body.specs.inner.Walked.{buffers_from, next_buffer, parts_pair};
 

@@ -1,7 +1,6 @@
 //! What a node has beside its children, where one is known to stand.
 
 ghost use Rattle.std.specs.Prelude.{◌≡◌, ◌<◌, IsSome, Some, length, slice_get};
-ghost use Rattle.vortex_flat.specs.Targets.{or_empty, vector_field};
 ghost use Rattle.vortex_body.specs.Body.{named_buffers};
 ghost use Rattle.vortex_body.specs.Reading.{own_at};
 ghost use Rattle.vortex_body.specs.inner.Walked.{known_own};

@@ -1,6 +1,6 @@
 //! The tables of nodes, read.
 
-ghost use Rattle.std.specs.Prelude.{◌≡◌, [], List, ℕ, IfOk};
+ghost use Rattle.std.specs.Prelude.{◌≡◌, [], IfOk};
 ghost use Rattle.std.specs.Option.{option_map};
 ghost use Rattle.vortex_prelude.specs.Absent.{or_else, or_zero};
 ghost use Rattle.vortex_flat.specs.Answers.{Answers};

@@ -2,7 +2,6 @@
 
 ghost use Rattle.std.specs.Prelude.{◌≡◌, ◌<◌};
 ghost use Rattle.vortex_body.specs.Answers.{Answers};
-ghost use Rattle.vortex_body.specs.Node.{nodes_from};
 ghost use Rattle.vortex_body.specs.Reading.{child_at, children_at, node_at};
 ghost use Rattle.vortex_body.specs.inner.Walked.{children_pair, found_pair, made_at};
 
