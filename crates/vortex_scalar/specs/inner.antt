@@ -3,5 +3,4 @@ pub mod Held
 pub mod Kept
 pub mod Parts
 pub mod HeldValues
-pub mod TypeWritten
 pub mod PartAnswers
