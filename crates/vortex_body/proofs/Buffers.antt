@@ -99,10 +99,6 @@ pub all_cut : (f : ℕ → Option BufferDescriptor) (i n : ℕ) (xs : List (List
 all_cut f i n xs region total le h =
     sym h ∙ ap (λ o. option_map (λ bs. xs ++ bs) (buffers_from region o)) (elements_end f i n le) ∙ ap (option_map (λ bs. xs ++ bs)) (no_descriptors region) ∙ ap Some (append-nil xs)
 
-pub none_before : (o : Option (List (List ℕ))) → option_map (λ bs. [] ++ bs) o ≡ o
-none_before None = refl
-none_before (Some bs) = refl
-
 pub cut_refused : (f : ℕ → Option BufferDescriptor) (i n : ℕ) (d : BufferDescriptor) (xs : List (List ℕ)) (region : List ℕ) (e : BodyError) (total : Option (List (List ℕ))) → i < n → f i ≡ Some d → Refuses e (next_buffer d region) → option_map (λ bs. xs ++ bs) (buffers_from region (elements f i (n - i))) ≡ total → Refuses e total
 cut_refused f i n d xs region Malformed total lt e none h = none_cut f i n d xs region total lt e none h
 cut_refused f i n d xs region OutOfMemory total lt e none h = tt

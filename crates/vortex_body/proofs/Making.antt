@@ -107,10 +107,6 @@ children_made b read v count i left ms total le h =
     let none : count - i ≡ 0 = omega arith in
     sym h ∙ ap (λ n. behind ms (children_at b read v n i left)) none ∙ (λ j. Some (record { found = before_none ms j; left = left }))
 
-pub none_made : (o : Option (Found Nodes)) → behind [] o ≡ o
-none_made None = refl
-none_made (Some f) = refl
-
 -- ---- refusals
 
 pub passes_on : {X Y : Type 0} (view : X → Y) (r : Result X BodyError) (e : BodyError) (found : Option Y) → IsErrAnd r (λ y. y ≡ e) → Refuses e found → Answers view r found

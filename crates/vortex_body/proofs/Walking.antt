@@ -2,7 +2,7 @@
 use Rattle.std.proofs.Common.{◌≡◌, ℕ, zero, suc, ◌+◌, ◌-◌, ◌<◌, ◌≤◌, List, [], ◌∷◌, length, Option, Some, None, refl, sym, ap, ◌∙◌, arith}
 use Rattle.std.specs.Prelude.{option_and_then, slice_get}
 use Rattle.std.specs.Option.{option_map}
-use Rattle.std.proofs.lemmas.Option.{slice_get_past, slice_get-get_or}
+use Rattle.std.proofs.lemmas.Option.{slice_get-get_or}
 use Rattle.vortex_prelude.specs.Absent.{or_zero, or_else}
 use Rattle.vortex_prelude.specs.Elements.{elements}
 use Rattle.vortex_flat.specs.Numbers.{number}
@@ -42,18 +42,10 @@ counted_more i x (Some xs) = ap Some (omega arith)
 named_some : (b : List ℕ) (buffers : List (List ℕ)) (v : VectorShape) (i k : ℕ) → Some k ≡ number b (element v i) 4 → k < length buffers → (x : List ℕ) × (named_buffer b buffers v i ≡ Some x)
 named_some b buffers v i k e lt = (_, ap (option_and_then (slice_get buffers)) (sym e) ∙ slice_get-get_or buffers k [] lt)
 
-pub place_past : (b : List ℕ) (buffers : List (List ℕ)) (v : VectorShape) (i n k : ℕ) (total : Option ℕ) → i < n → Some k ≡ number b (element v i) 4 → length buffers ≤ k → counted i (elements (named_buffer b buffers v) i (n - i)) ≡ total → total ≡ None
-place_past b buffers v i n k total lt e past h =
-    let none : named_buffer b buffers v i ≡ None = ap (option_and_then (slice_get buffers)) (sym e) ∙ slice_get_past buffers k past in
-    sym h ∙ ap (counted i) (elements_fail (named_buffer b buffers v) i n lt none)
-
 pub place_within : (b : List ℕ) (buffers : List (List ℕ)) (v : VectorShape) (i n k : ℕ) (total : Option ℕ) → i < n → Some k ≡ number b (element v i) 4 → k < length buffers → counted i (elements (named_buffer b buffers v) i (n - i)) ≡ total → counted (i + 1) (elements (named_buffer b buffers v) (i + 1) (n - (i + 1))) ≡ total
 place_within b buffers v i n k total lt e within h =
     let named = named_some b buffers v i k e within in
     sym (counted_more i named.0 (elements (named_buffer b buffers v) (i + 1) (n - (i + 1)))) ∙ sym (ap (counted i) (elements_more (named_buffer b buffers v) i n named.0 lt named.1)) ∙ h
-
-pub places_end : (b : List ℕ) (buffers : List (List ℕ)) (v : VectorShape) (i n : ℕ) (total : Option ℕ) → i ≤ n → n ≤ i → counted i (elements (named_buffer b buffers v) i (n - i)) ≡ total → total ≡ Some n
-places_end b buffers v i n total ge le h = sym h ∙ ap (counted i) (elements_end (named_buffer b buffers v) i n le) ∙ ap Some (omega arith)
 
 -- ---- a node without what it has beside its children
 
