@@ -19,15 +19,17 @@ above true (suc m) n = omega (arith, ints)
 above false m n = omega (arith, ints)
 
 natural : (s : Bool) (m n : ℕ) → 0 < m → ltb n m ≡ true ↔ ((low s m ≤ℤ pos n) × (pos n ≤ℤ pos (m - 1)))
-natural s m n some =
-    (λ e. let h = ltb-true n m e in (above s m n, omega (arith, ints)),
-    λ both. let h = both.1 in lt-ltb n m (let k : n ≤ m - 1 = omega (arith, ints, h) in omega arith))
+natural s m n some = (
+  λ e. let h = ltb-true n m e in (above s m n, omega (arith, ints)),
+  λ both. let h = both.1 in lt-ltb n m (let k : n ≤ m - 1 = omega (arith, ints, h) in omega arith),
+)
 
 negative : (s : Bool) (m n : ℕ) → 0 < m → (s && ltb n m) ≡ true ↔ ((low s m ≤ℤ negsuc n) × (negsuc n ≤ℤ pos (m - 1)))
 negative false m n some = (λ e. absurd (true≢false (sym e)), λ both. absurd both.0.le)
-negative true m n some =
-    (λ e. let h = ltb-true n m e in (omega (arith, ints), omega (arith, ints)),
-    λ both. let h = both.0 in lt-ltb n m (let k : suc n ≤ m = omega (arith, ints, h) in omega arith))
+negative true m n some = (
+  λ e. let h = ltb-true n m e in (omega (arith, ints), omega (arith, ints)),
+  λ both. let h = both.0 in lt-ltb n m (let k : suc n ≤ m = omega (arith, ints, h) in omega arith),
+)
 
 pub ends : (k : PType) (z : ℤ) → IsTrue (in_range k z) ↔ ((least k ≤ℤ z) × (z ≤ℤ pos (greatest k)))
 ends k (pos n) = natural (is_signed k) (2 ^ magnitude_bits (format_of k)) n (pow_pos (magnitude_bits (format_of k)))

@@ -1,5 +1,7 @@
 -- A whole quotient is the one number whose product with the divisor is the dividend.
-use Rattle.std.proofs.Common.{◌≡◌, ◌↔◌, ltb, subst, ℕ, zero, suc, ◌*◌, ◌/◌, ◌%◌, ◌^◌, ◌<◌, ℤ, pos, negsuc, neg_ℤ, ◌+ℤ◌, ◌*ℤ◌, Bool, true, false, Option, Some, None, refl, sym, ◌∙◌, ap, true≢false, arith, int_div, int_rem}
+use Rattle.std.proofs.lemmas.Option.{none-some}
+use Rattle.vortex_arithmetic.proofs.Fractions.{zero_is}
+use Rattle.std.proofs.Common.{◌≡◌, ◌↔◌, ltb, subst, ℕ, zero, suc, ◌*◌, ◌/◌, ◌%◌, ◌<◌, ℤ, pos, negsuc, neg_ℤ, ◌+ℤ◌, ◌*ℤ◌, Bool, true, false, Option, Some, None, refl, sym, ◌∙◌, ap, true≢false, arith, int_div, int_rem}
 use Rattle.std.specs.Prelude.{FitsSigned}
 use Rattle.std.specs.Bool.{if◌then◌else◌}
 use Rattle.std.specs.Int.{w128}
@@ -7,7 +9,7 @@ use Rattle.std.specs.Ordering.{int_eq}
 use Rattle.std.proofs.Math.Nat.{mul-div_cancel, mul-mod_left}
 use Rattle.std.proofs.lemmas.Bool.{lt-ltb}
 use Rattle.std.proofs.lemmas.Int.{ints, quot-rem}
-use Rattle.vortex_number.specs.Format.{signed, fits}
+use Rattle.vortex_number.specs.Format.{signed}
 use Rattle.vortex_number.specs.inner.FormatLaws.{fit_signed}
 use Rattle.vortex_arithmetic.specs.Operated.{within}
 use Rattle.vortex_arithmetic.specs.Scaled.{tens, whole, rescaled}
@@ -27,19 +29,9 @@ zero_from (pos (suc n)) e = absurd (true≢false (sym e ∙ above (suc n) (lt-lt
         by false f = rw f (rw h refl)
 zero_from (negsuc n) e = absurd (true≢false (sym e))
 
-zero_is : (z : ℤ) → z ≡ pos 0 → int_eq z (pos 0) ≡ true
-zero_is z e = ap (λ x. int_eq x (pos 0)) e
-
 found_where : (b : Bool) (o : Option ℤ) (w : ℤ) → (if b then o else None) ≡ Some w → (b ≡ true) × (o ≡ Some w)
 found_where true o w e = (refl, e)
-found_where false o w e = absurd (none e)
-  where
-    is : Option ℤ → Type 0
-    is (Some x) = ⊥
-    is None = Unit {0}
-
-    none : None ≡ Some w → ⊥
-    none h = subst is h tt
+found_where false o w e = absurd (none-some w e)
 
 product_of : (t w : ℤ) (p : ℕ) → whole t p ≡ Some w → FitsSigned w128 w × (w *ℤ pos p ≡ t)
 product_of t w p e =

@@ -1,6 +1,7 @@
 -- Fractions of whole numbers: when they are whole, and how they are rounded.
+use Rattle.std.proofs.lemmas.Option.{none-some}
 use Rattle.std.proofs.Common.{◌≡◌, ◌⊎◌, inl, inr, subst, ℕ, zero, suc, ◌+◌, ◌-◌, ◌*◌, ◌/◌, ◌%◌, ◌^◌, ◌<◌, ◌≤◌, min, ℤ, pos, negsuc, neg_ℤ, ◌+ℤ◌, ◌*ℤ◌, Bool, true, false, Option, Some, None, leb, ltb, refl, sym, ◌∙◌, ap, true≢false, arith, int_div, int_rem, mod-lt, div-add-mod', le_of_mul-le-mul_right, lt_of_mul-lt-mul_right, mul-le-mul_right}
-use Rattle.std.specs.Prelude.{FitsSigned, ◌<ℤ◌}
+use Rattle.std.specs.Prelude.{FitsSigned}
 use Rattle.std.specs.Bool.{if◌then◌else◌}
 use Rattle.std.specs.Prelude.{int_le, ◌&&◌}
 use Rattle.std.specs.Int.{w128, int_gap, int_signum}
@@ -14,9 +15,9 @@ use Rattle.std.specs.Cmp.{both_ways}
 use Rattle.std.specs.Option.{option_map}
 use Rattle.std.proofs.lemmas.Bool.{ltb-true, leb-true, leb-false, lt-ltb, le-leb}
 use Rattle.std.proofs.lemmas.Nat.{pow_pos}
-use Rattle.std.proofs.lemmas.Int.{ints, quot_fits, quot-rem}
-use Rattle.vortex_number.specs.Format.{Format, signed, fits, magnitude_bits}
-use Rattle.vortex_number.specs.inner.FormatLaws.{fit_signed, signed_fit}
+use Rattle.std.proofs.lemmas.Int.{ints, quot_fits}
+use Rattle.vortex_number.specs.Format.{signed, fits, magnitude_bits}
+use Rattle.vortex_number.specs.inner.FormatLaws.{fit_signed}
 use Rattle.vortex_number.specs.PType.{format_of, is_signed}
 use Rattle.vortex_number.specs.declared.ptype.PType.{PType}
 use Rattle.vortex_arithmetic.specs.Operated.{within}
@@ -53,7 +54,7 @@ apart (negsuc a) (negsuc b) = by (leb a b) refl
 
 -- ---- whole quotients
 
-zero_is : (z : ℤ) → z ≡ pos 0 → int_eq z (pos 0) ≡ true
+pub zero_is : (z : ℤ) → z ≡ pos 0 → int_eq z (pos 0) ≡ true
 zero_is z e = ap (λ x. int_eq x (pos 0)) e
 
 whole_by_one : (t : ℤ) → whole t 1 ≡ within (signed w128) (Some t)
@@ -272,22 +273,8 @@ quotient_word t q p some f e =
 
 pub mapped_none : (f : ℤ → PValue) (o : Option ℤ) → option_map f o ≡ None → o ≡ None
 mapped_none f None e = refl
-mapped_none f (Some x) e = absurd (some e)
-  where
-    is : Option PValue → Type 0
-    is (Some y) = Unit {0}
-    is None = ⊥
-
-    some : Some (f x) ≡ None → ⊥
-    some h = subst is h tt
+mapped_none f (Some x) e = absurd (none-some (f x) (sym e))
 
 pub mapped_some : (f : ℤ → PValue) (o : Option ℤ) (v : PValue) → option_map f o ≡ Some v → (x : ℤ) × (o ≡ Some x)
 mapped_some f (Some x) v e = (x, refl)
-mapped_some f None v e = absurd (none e)
-  where
-    is : Option PValue → Type 0
-    is (Some y) = ⊥
-    is None = Unit {0}
-
-    none : None ≡ Some v → ⊥
-    none h = subst is h tt
+mapped_some f None v e = absurd (none-some v e)

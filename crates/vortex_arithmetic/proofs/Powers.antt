@@ -1,5 +1,5 @@
 -- Powers of ten: up to the 38th they have a place in 128 bits, and above no product with one has.
-use Rattle.std.proofs.Common.{◌≡◌, ℕ, zero, suc, ◌+◌, ◌-◌, ◌*◌, ◌/◌, ◌%◌, ◌^◌, ◌<◌, ◌≤◌, ℤ, pos, negsuc, ◌*ℤ◌, Bool, true, false, Option, Some, None, ltb, refl, sym, ◌∙◌, ap, subst, arith, ◌<ℤ◌, to_z, of_z, lit<, lit≤, int_div, int_rem, mod-eq_of_lt, neg_ℤ}
+use Rattle.std.proofs.Common.{◌≡◌, ℕ, zero, suc, ◌+◌, ◌*◌, ◌/◌, ◌^◌, ◌<◌, ◌≤◌, ℤ, pos, negsuc, ◌*ℤ◌, Bool, true, false, Some, None, ltb, refl, sym, ap, subst, arith, ◌<ℤ◌, to_z, of_z, lit<, int_div, int_rem, mod-eq_of_lt, neg_ℤ}
 use Rattle.std.specs.Int.{w128}
 use Rattle.std.proofs.Math.Nat.{pow-le-pow_right, div-eq_of_lt-le}
 use Rattle.std.proofs.lemmas.Bool.{ltb-true}

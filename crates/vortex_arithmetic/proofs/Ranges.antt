@@ -1,15 +1,15 @@
 -- The numbers of each kind have a place in 128 bits.
+use Rattle.std.proofs.lemmas.Option.{none-some, same_Some}
 use Rattle.std.proofs.Common.{◌≡◌, subst, ℕ, ◌^◌, ℤ, pos, negsuc, Bool, true, false, Option, Some, None, ltb, leb, refl, sym, ◌∙◌, ap, true≢false, arith, FitsSigned}
 use Rattle.std.specs.Bool.{if◌then◌else◌}
 use Rattle.std.specs.Int.{w128}
 use Rattle.std.proofs.lemmas.Bool.{ltb-true, lt-ltb, leb-true}
 use Rattle.vortex_number.specs.Format.{Format, signed, fits}
-use Rattle.vortex_number.specs.inner.FormatLaws.{signed_fit, fit_signed}
+use Rattle.vortex_number.specs.inner.FormatLaws.{signed_fit}
 use Rattle.vortex_number.specs.PType.{format_of}
 use Rattle.vortex_number.specs.declared.ptype.PType.{PType}
 use Rattle.vortex_number.specs.declared.ptype.PType.TheVariants.{U8, U16, U32, U64, I8, I16, I32, I64}
-use Rattle.vortex_value.specs.declared.numeric_operator.NumericOperator.{NumericOperator}
-use Rattle.vortex_arithmetic.specs.Operated.{within, operated}
+use Rattle.vortex_arithmetic.specs.Operated.{within}
 
 wider : (a b n : ℕ) → leb a b ≡ true → ltb n a ≡ true → ltb n b ≡ true
 wider a b n e h =
@@ -36,37 +36,15 @@ wide I32 (negsuc n) h = wider (2 ^ 31) (2 ^ 127) n refl h
 wide I64 (negsuc n) h = wider (2 ^ 63) (2 ^ 127) n refl h
 
 -- what is found has a place, and is the number
-
 chosen : (b : Bool) (z t : ℤ) → (if b then Some z else None) ≡ Some t → (b ≡ true) × (t ≡ z)
-chosen true z t e = (refl, sym (some_same e))
-  where
-    inside : Option ℤ → ℤ
-    inside (Some x) = x
-    inside None = pos 0
-
-    some_same : Some z ≡ Some t → z ≡ t
-    some_same h = ap inside h
-chosen false z t e = absurd (none e)
-  where
-    is : Option ℤ → Type 0
-    is (Some x) = ⊥
-    is None = Unit {0}
-
-    none : None ≡ Some t → ⊥
-    none h = subst is h tt
+chosen true z t e = (refl, sym (same_Some z t e))
+chosen false z t e = absurd (none-some t e)
 
 pub within_some : (f : Format) (z t : ℤ) → within f (Some z) ≡ Some t → (fits f z ≡ true) × (t ≡ z)
 within_some f z t e = chosen (fits f z) z t e
 
 not_chosen : (b : Bool) (z : ℤ) → (if b then Some z else None) ≡ None → b ≡ false
-not_chosen true z e = absurd (some e)
-  where
-    is : Option ℤ → Type 0
-    is (Some x) = Unit {0}
-    is None = ⊥
-
-    some : Some z ≡ None → ⊥
-    some h = subst is h tt
+not_chosen true z e = absurd (none-some z (sym e))
 not_chosen false z e = refl
 
 pub within_none : (f : Format) (z : ℤ) → within f (Some z) ≡ None → fits f z ≡ false
@@ -91,25 +69,11 @@ within_narrow k None e = refl
 within_narrow k (Some z) e = not_within (format_of k) z (narrow k z (within_none (signed w128) z e))
 
 pub within_wide : (k : PType) (o : Option ℤ) (t : ℤ) → within (signed w128) o ≡ Some t → within (format_of k) (Some t) ≡ within (format_of k) o
-within_wide k None t e = absurd (none e)
-  where
-    is : Option ℤ → Type 0
-    is (Some x) = ⊥
-    is None = Unit {0}
-
-    none : None ≡ Some t → ⊥
-    none h = subst is h tt
+within_wide k None t e = absurd (none-some t e)
 within_wide k (Some z) t e = ap (λ x. within (format_of k) (Some x)) (within_some (signed w128) z t e).1
 
 pub fits_within : (o : Option ℤ) (t : ℤ) → within (signed w128) o ≡ Some t → FitsSigned w128 t
-fits_within None t e = absurd (none e)
-  where
-    is : Option ℤ → Type 0
-    is (Some x) = ⊥
-    is None = Unit {0}
-
-    none : None ≡ Some t → ⊥
-    none h = subst is h tt
+fits_within None t e = absurd (none-some t e)
 fits_within (Some z) t e =
     let both = within_some (signed w128) z t e in
     signed_fit w128 t (subst (λ x. fits (signed w128) x ≡ true) (sym both.1) both.0)

@@ -39,6 +39,13 @@ pub fn to_whole(number: i128, scale: i8, ptype: PType) -> Option<PValue>
     rounded_quotient(raised(number, steps(scale, 0))?, steps(0, scale), ptype)
 }
 
+/// The least and the greatest number of a kind are the ends of its range. It does nothing when the
+/// program runs.
+pub fn ranges_have_ends()
+    ensures { (k : PType) (z : ℤ)
+        → IsTrue (in_range k z) ↔ ((least k ≤ℤ z) × (z ≤ℤ pos (greatest k))) }
+{}
+
 /// Worked decimals at other scales, and as whole numbers. It does nothing when the program runs.
 #[tactic(auto, unfolding(crate::specs::Scaled::rescaled, crate::specs::Scaled::whole_of))]
 pub fn decimals_are_worked()
@@ -69,13 +76,6 @@ fn rounded_quotient(number: i128, places: u8, ptype: PType) -> Option<PValue>
     value_in(ptype, quotient + rest.signum())?;
     value_in(ptype, quotient)
 }
-
-/// The least and the greatest number of a kind are the ends of its range. It does nothing when the
-/// program runs.
-pub fn ranges_have_ends()
-    ensures { (k : PType) (z : ℤ)
-        → IsTrue (in_range k z) ↔ ((least k ≤ℤ z) × (z ≤ℤ pos (greatest k))) }
-{}
 
 // How many steps it is from one scale up to another: none where that is not above.
 fn steps(low: i8, high: i8) -> u8

@@ -28,11 +28,16 @@ fn binary(op: NumericOperator, ptype: PType, a: i128, b: i128) -> Option<PValue>
 
 /// Worked results of the operators. It does nothing when the program runs.
 pub fn operators_are_worked()
-    ensures quotient { operated_within kind.I8 NumericOperator.Div (pos 7) (neg_ℤ (pos 2)) ≡ Some (neg_ℤ (pos 3)) }
-    ensures turned { operated_within kind.I8 NumericOperator.RDiv (neg_ℤ (pos 2)) (pos 7) ≡ Some (neg_ℤ (pos 3)) }
-    ensures difference { operated_within kind.I8 NumericOperator.Sub (pos 7) (pos 9) ≡ Some (neg_ℤ (pos 2)) }
-    ensures turned_difference { operated_within kind.I8 NumericOperator.RSub (pos 7) (pos 9) ≡ Some (pos 2) }
-    ensures outside { operated_within kind.I8 NumericOperator.Div (neg_ℤ (pos 128)) (neg_ℤ (pos 1)) ≡ None }
+    ensures quotient { operated_within kind.I8 NumericOperator.Div (pos 7) (neg_ℤ (pos 2))
+        ≡ Some (neg_ℤ (pos 3)) }
+    ensures turned { operated_within kind.I8 NumericOperator.RDiv (neg_ℤ (pos 2)) (pos 7)
+        ≡ Some (neg_ℤ (pos 3)) }
+    ensures difference { operated_within kind.I8 NumericOperator.Sub (pos 7) (pos 9)
+        ≡ Some (neg_ℤ (pos 2)) }
+    ensures turned_difference { operated_within kind.I8 NumericOperator.RSub (pos 7) (pos 9)
+        ≡ Some (pos 2) }
+    ensures outside { operated_within kind.I8 NumericOperator.Div (neg_ℤ (pos 128)) (neg_ℤ (pos 1))
+        ≡ None }
     ensures no_divisor { operated NumericOperator.Div (pos 7) (pos 0) ≡ None }
     ensures no_turned_divisor { operated NumericOperator.RDiv (pos 0) (pos 7) ≡ None }
 {}
