@@ -1,0 +1,5 @@
+mod Ranges
+mod Powers
+mod Fractions
+mod Exact
+mod Ends
