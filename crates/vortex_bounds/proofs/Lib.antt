@@ -1,0 +1,2 @@
+mod RaisedLemmas
+mod BoundLemmas
