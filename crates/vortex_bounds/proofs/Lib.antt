@@ -1,2 +1,3 @@
 mod RaisedLemmas
 mod BoundLemmas
+mod TextLemmas

@@ -3,6 +3,8 @@
 
 mod bytes;
 mod laws;
+mod texts;
 
 pub use bytes::{lower_bytes, upper_bytes};
 pub use laws::bounds_of_bytes;
+pub use texts::{lower_text, upper_text};
