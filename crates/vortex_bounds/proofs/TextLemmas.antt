@@ -120,7 +120,7 @@ found text rest before place c next u s e at n h =
     ∙ ap (λ k. Some (take place text ++ encode_utf8 k)) (sym test.1)
     ∙ ap (λ l. Some (l ++ encode_utf8 next)) (sym (range_is text place))
 
-scalars_within : (n : ℕ) (cs : List ℕ) → all_scalars cs ≡ true → all_scalars (chars_within n cs) ≡ true
+pub scalars_within : (n : ℕ) (cs : List ℕ) → all_scalars cs ≡ true → all_scalars (chars_within n cs) ≡ true
 scalars_within n [] s = refl
 scalars_within n (c ∷ cs) s = by (nat_le (len_utf8 c) n) (scalars_within (n - len_utf8 c) cs ((and_parts _ _ s).1))
   where

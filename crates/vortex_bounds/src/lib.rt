@@ -6,5 +6,5 @@ mod laws;
 mod texts;
 
 pub use bytes::{lower_bytes, upper_bytes};
-pub use laws::bounds_of_bytes;
+pub use laws::{bounds_of_bytes, bounds_of_texts};
 pub use texts::{lower_text, upper_text};
