@@ -8,3 +8,6 @@ mod texts;
 pub use bytes::{lower_bytes, upper_bytes};
 pub use laws::{bounds_of_bytes, bounds_of_texts};
 pub use texts::{lower_text, upper_text};
+
+#[cfg(test)]
+mod tests;
