@@ -36,6 +36,7 @@ fn scalar_of(alloc: Global, bytes: &str) -> Result<Scalar, Refusal> {
 }
 
 /// The row of a scalar whose type nests at most so deep.
+#[cycle(rows)]
 fn row_text(alloc: Global, scalar: &Scalar, levels: usize) -> Result<String, Refusal> {
     if levels == 0 {
         return Err(Refusal::Unknown);
@@ -56,6 +57,7 @@ fn row_text(alloc: Global, scalar: &Scalar, levels: usize) -> Result<String, Ref
 }
 
 /// Rows with commas between them.
+#[cycle(rows)]
 fn rows_text(alloc: Global, rows: Option<Vec<Scalar>>, levels: usize) -> Result<String, Refusal> {
     let mut text = String::from_str(alloc, "[")?;
     if let Some(rows) = rows {
