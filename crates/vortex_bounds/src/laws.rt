@@ -6,8 +6,8 @@ ghost use Rattle.std.specs.Ordering.{is_le, nat_cmp};
 ghost use Rattle.vortex_bounds.specs.Texts.{text_lower_bound, text_upper_bound};
 ghost use Rattle.vortex_bounds.specs.Bytes.{byte_lower_bound, byte_upper_bound};
 
-/// A lower bound is at most the bytes, and an upper bound at least, in the order of bytes. Neither is
-/// longer than it may be.
+/// A lower bound is at most the bytes, and an upper bound at least, in the order of bytes. Neither
+/// is longer than it may be.
 pub fn bounds_of_bytes()
     ensures lower { (n : ℕ) (bytes : List ℕ)
         → IsTrue (is_le (slice_cmp nat_cmp (byte_lower_bound n bytes) bytes)) }

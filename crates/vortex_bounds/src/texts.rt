@@ -16,10 +16,10 @@ pub fn lower_text(text: &str, max_length: usize) -> &str
     &text[..text.floor_char_boundary(max_length)]
 }
 
-/// The text, if it is at most `max_length` bytes. A longer one is cut as for [`lower_text`], and the
-/// last character of the cut that can be raised is raised, with nothing after it; None where none
-/// can. A character can be raised where the code point above it is a character of as many bytes.
-/// Its one error is that memory ran out.
+/// The text, if it is at most `max_length` bytes. A longer one is cut as for [`lower_text`], and
+/// the last character of the cut that can be raised is raised, with nothing after it; None where
+/// none can. A character can be raised where the code point above it is a character of as many
+/// bytes. Its one error is that memory ran out.
 pub fn upper_text(
     alloc: Global,
     text: &str,
