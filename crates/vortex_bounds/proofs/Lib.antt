@@ -1,0 +1,5 @@
+mod RaisedLemmas
+mod BoundLemmas
+mod TextLemmas
+mod CharLemmas
+mod TextBoundLemmas

@@ -1,0 +1,34 @@
+//! Laws of bounds. Each is a function that does nothing when the program runs.
+
+ghost use Rattle.std.specs.Prelude.{◌≡◌, ◌≤◌, ℕ, List, Some, IsTrue, IsUtf8, length};
+ghost use Rattle.std.specs.Cmp.Lexicographic.{slice_cmp};
+ghost use Rattle.std.specs.Ordering.{is_le, nat_cmp};
+ghost use Rattle.vortex_bounds.specs.Texts.{text_lower_bound, text_upper_bound};
+ghost use Rattle.vortex_bounds.specs.Bytes.{byte_lower_bound, byte_upper_bound};
+
+/// A lower bound is at most the bytes, and an upper bound at least, in the order of bytes. Neither
+/// is longer than it may be.
+pub fn bounds_of_bytes()
+    ensures lower { (n : ℕ) (bytes : List ℕ)
+        → IsTrue (is_le (slice_cmp nat_cmp (byte_lower_bound n bytes) bytes)) }
+    ensures lower_length { (n : ℕ) (bytes : List ℕ) → length (byte_lower_bound n bytes) ≤ n }
+    ensures upper { (n : ℕ) (bytes bound : List ℕ) → byte_upper_bound n bytes ≡ Some bound
+        → IsTrue (is_le (slice_cmp nat_cmp bytes bound)) }
+    ensures upper_length { (n : ℕ) (bytes bound : List ℕ) → byte_upper_bound n bytes ≡ Some bound
+        → length bound ≤ n }
+{}
+
+/// The same of texts, and the bounds are texts too.
+pub fn bounds_of_texts()
+    ensures lower { (n : ℕ) (text : List ℕ) → IsUtf8 text
+        → IsTrue (is_le (slice_cmp nat_cmp (text_lower_bound n text) text)) }
+    ensures lower_length { (n : ℕ) (text : List ℕ) → length (text_lower_bound n text) ≤ n }
+    ensures lower_text { (n : ℕ) (text : List ℕ) → IsUtf8 text → IsUtf8 (text_lower_bound n text) }
+    ensures upper { (n : ℕ) (text bound : List ℕ) → IsUtf8 text
+        → text_upper_bound n text ≡ Some bound
+        → IsTrue (is_le (slice_cmp nat_cmp text bound)) }
+    ensures upper_length { (n : ℕ) (text bound : List ℕ)
+        → text_upper_bound n text ≡ Some bound → length bound ≤ n }
+    ensures upper_text { (n : ℕ) (text bound : List ℕ) → IsUtf8 text
+        → text_upper_bound n text ≡ Some bound → IsUtf8 bound }
+{}
