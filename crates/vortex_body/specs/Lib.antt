@@ -3,3 +3,4 @@ pub mod Body
 pub mod Reading
 pub mod Answers
 pub mod inner
+pub mod Worked

@@ -24,8 +24,8 @@ const MOST_LEVELS: usize = 128;
 const MOST_NODES: usize = 4_000_000;
 
 impl NodeParts {
-    /// The node that a body stands for, which is checked whole before memory is taken for nodes. It
-    /// is [`BodyError::Malformed`] exactly where the body stands for none within the limits.
+    /// The node that a body stands for. It is [`BodyError::Malformed`] exactly where the body stands
+    /// for none within the limits. The body is checked whole before memory is taken for nodes.
     #[tactic(auto, unfolding(crate::specs::Reading::node_of))]
     pub fn try_new(alloc: Global, body: ByteBuffer) -> Result<NodeParts, BodyError>
         ensures { Answers (λ n. n) result (node_of body.bytes) }

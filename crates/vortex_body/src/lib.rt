@@ -12,7 +12,10 @@ mod tree;
 mod walk;
 
 pub use error::BodyError;
-pub use laws::{bodies_are_found, found_nodes_stand, one_node_stands, standing_nodes_are_found};
+pub use laws::{
+    bodies_are_found, bodies_are_worked, found_nodes_stand, one_node_stands,
+    standing_nodes_are_found,
+};
 pub use parts::NodeParts;
 
 #[cfg(test)]
