@@ -56,6 +56,10 @@ pub fn decimals_are_worked()
     ensures above { whole_of (pos 2559) (pos 1) kind.U8 ≡ None }
     ensures toward_zero { whole_of (pos 25) (pos 1) kind.I8 ≡ Some (pos 2) }
     ensures from_below { whole_of (neg_ℤ (pos 25)) (pos 1) kind.I8 ≡ Some (neg_ℤ (pos 2)) }
+    ensures signed_above { whole_of (pos 1271) (pos 1) kind.I8 ≡ None }
+    ensures signed_below { whole_of (neg_ℤ (pos 1281)) (pos 1) kind.I8 ≡ None }
+    ensures signed_greatest { whole_of (pos 1270) (pos 1) kind.I8 ≡ Some (pos 127) }
+    ensures signed_least { whole_of (neg_ℤ (pos 1280)) (pos 1) kind.I8 ≡ Some (neg_ℤ (pos 128)) }
     ensures hundreds { whole_of (pos 3) (neg_ℤ (pos 2)) kind.U16 ≡ Some (pos 300) }
 {}
 

@@ -38,6 +38,12 @@ pub fn operators_are_worked()
         ≡ Some (pos 2) }
     ensures outside { operated_within kind.I8 NumericOperator.Div (neg_ℤ (pos 128)) (neg_ℤ (pos 1))
         ≡ None }
+    ensures both_above { operated NumericOperator.Div (pos 7) (pos 2) ≡ Some (pos 3) }
+    ensures both_below { operated NumericOperator.Div (neg_ℤ (pos 7)) (neg_ℤ (pos 2)) ≡ Some (pos 3) }
+    ensures dividend_below { operated NumericOperator.Div (neg_ℤ (pos 7)) (pos 2)
+        ≡ Some (neg_ℤ (pos 3)) }
+    ensures sum { operated NumericOperator.Add (pos 7) (pos 9) ≡ Some (pos 16) }
+    ensures product { operated NumericOperator.Mul (pos 7) (neg_ℤ (pos 9)) ≡ Some (neg_ℤ (pos 63)) }
     ensures no_divisor { operated NumericOperator.Div (pos 7) (pos 0) ≡ None }
     ensures no_turned_divisor { operated NumericOperator.RDiv (pos 0) (pos 7) ≡ None }
 {}

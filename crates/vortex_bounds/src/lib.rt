@@ -1,4 +1,4 @@
-//! The least and the greatest short bytes and texts between which a long value lies.
+//! Short bytes and texts between which a long value lies.
 #![tactic(auto)]
 
 mod bytes;
@@ -6,7 +6,7 @@ mod laws;
 mod texts;
 
 pub use bytes::{lower_bytes, upper_bytes};
-pub use laws::{bounds_of_bytes, bounds_of_texts};
+pub use laws::{bounds_are_worked, bounds_of_bytes, bounds_of_texts};
 pub use texts::{lower_text, upper_text};
 
 #[cfg(test)]
