@@ -1,5 +1,8 @@
-//! Tests of where the bodies of messages lie.
+//! Tests of where the bodies of messages lie, and what header bytes are.
 #![tactic(auto)]
 
+mod laws;
 #[cfg(test)]
 mod tests;
+
+pub use laws::headers_are_worked;
