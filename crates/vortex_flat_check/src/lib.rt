@@ -7,4 +7,4 @@ mod layout_tests;
 #[cfg(test)]
 mod reading_tests;
 
-pub use laws::tables_are_small;
+pub use laws::{a_buffer_is_worked, tables_are_small, words_are_worked};
