@@ -1,5 +1,5 @@
-mod Ranges
-mod Powers
-mod Fractions
-mod Exact
+pub mod Ranges
+pub mod Powers
+pub mod Fractions
+pub mod Exact
 mod Ends

@@ -9,4 +9,4 @@ mod tests;
 pub use decimal::{
     decimals_are_worked, numbers_are_rescaled_exactly, ranges_have_ends, rescale, to_whole,
 };
-pub use number::{checked_binary, operators_are_worked};
+pub use number::{checked_binary, operators_are_worked, value_in};

@@ -48,8 +48,8 @@ pub fn operators_are_worked()
     ensures no_turned_divisor { operated NumericOperator.RDiv (pos 0) (pos 7) ≡ None }
 {}
 
-// The number as a value of the kind, where it is in range.
-pub(crate) fn value_in(ptype: PType, number: i128) -> Option<PValue>
+/// The number as a value of the kind. `None` where it is not in range.
+pub fn value_in(ptype: PType, number: i128) -> Option<PValue>
     ensures { result ≡ option_map (value_of ptype) (within (format_of ptype) (Some number)) }
 {
     match ptype {

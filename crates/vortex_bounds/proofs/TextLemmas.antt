@@ -133,3 +133,10 @@ pub upper_raised : (text lower : List ℕ) (n : ℕ) → IsUtf8 text → n < len
 upper_raised text lower n u long e =
     ap (λ l. option_map encode_utf8_all (raised_chars l)) (ap chars e ∙ chars-encodes _ (scalars_within n (chars text) (scalars-chars text u)))
     ∙ sym (cond-false (nat_le (length text) n) _ _ (lt-leb (length text) n long))
+
+-- a text that is short enough is its own lower bound
+pub all_within : (n : ℕ) (text : List ℕ) → IsUtf8 text → length text ≤ n → text_lower_bound n text ≡ text
+all_within n text u h =
+    let cs = chars text in
+    let long : length (encode_utf8_all cs) + (n - length text) ≡ n = omega (arith, h, ap length (encodes-chars text u)) in
+    ap encode_utf8_all (ap (chars_within n) (sym (append-nil cs)) ∙ within_front cs [] n (n - length text) long ∙ append-nil cs) ∙ encodes-chars text u

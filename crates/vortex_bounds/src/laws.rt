@@ -7,11 +7,13 @@ ghost use Rattle.vortex_bounds.specs.Texts.{text_lower_bound, text_upper_bound, 
 ghost use Rattle.vortex_bounds.specs.Bytes.{byte_lower_bound, byte_upper_bound};
 
 /// A lower bound is at most the bytes, and an upper bound at least, in the order of bytes. Neither
-/// is longer than it may be.
+/// is longer than it may be. Bytes that are no longer are their own lower bound.
 pub fn bounds_of_bytes()
     ensures lower { (n : ℕ) (bytes : List ℕ)
         → IsTrue (is_le (slice_cmp nat_cmp (byte_lower_bound n bytes) bytes)) }
     ensures lower_length { (n : ℕ) (bytes : List ℕ) → length (byte_lower_bound n bytes) ≤ n }
+    ensures own_lower { (n : ℕ) (bytes : List ℕ) → length bytes ≤ n
+        → byte_lower_bound n bytes ≡ bytes }
     ensures upper { (n : ℕ) (bytes bound : List ℕ) → byte_upper_bound n bytes ≡ Some bound
         → IsTrue (is_le (slice_cmp nat_cmp bytes bound)) }
     ensures upper_length { (n : ℕ) (bytes bound : List ℕ) → byte_upper_bound n bytes ≡ Some bound
@@ -23,6 +25,8 @@ pub fn bounds_of_texts()
     ensures lower { (n : ℕ) (text : List ℕ) → IsUtf8 text
         → IsTrue (is_le (slice_cmp nat_cmp (text_lower_bound n text) text)) }
     ensures lower_length { (n : ℕ) (text : List ℕ) → length (text_lower_bound n text) ≤ n }
+    ensures own_lower { (n : ℕ) (text : List ℕ) → IsUtf8 text → length text ≤ n
+        → text_lower_bound n text ≡ text }
     ensures lower_text { (n : ℕ) (text : List ℕ) → IsUtf8 text → IsUtf8 (text_lower_bound n text) }
     ensures upper { (n : ℕ) (text bound : List ℕ) → IsUtf8 text
         → text_upper_bound n text ≡ Some bound

@@ -6,3 +6,5 @@ pub mod Put
 pub mod Read
 pub mod Standing
 pub mod Written
+pub mod Joining
+pub mod ValueTexts

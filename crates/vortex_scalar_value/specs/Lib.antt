@@ -9,3 +9,5 @@ pub mod ValueBytes
 pub mod Reading
 pub mod Held
 pub mod Standing
+pub mod Joined
+pub mod ValueText

@@ -1,6 +1,7 @@
 //! Values of scalars without their types.
 #![tactic(auto)]
 
+mod display;
 mod error;
 mod laws;
 mod reading;

@@ -55,6 +55,15 @@ impl DType {
     }
 }
 
+impl<'a> TypeRef<'a> {
+    /// Whether the types are the same apart from nullability.
+    pub fn eq_ignore_nullability(self, other: TypeRef<'_>) -> bool
+        ensures { result ≡ is_same (ref_term self.entry) (ref_term other.entry) }
+    {
+        equal(false, self, other)
+    }
+}
+
 impl ExtDType {
     /// Whether the types are the same apart from nullability.
     pub fn eq_ignore_nullability(&self, other: &ExtDType) -> bool

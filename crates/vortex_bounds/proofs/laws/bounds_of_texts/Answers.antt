@@ -1,4 +1,5 @@
 use Rattle.vortex_bounds.proofs.TextBoundLemmas.{text_lower_le, text_lower_short, text_lower_utf8, text_upper_ge, text_upper_short, text_upper_utf8}
+use Rattle.vortex_bounds.proofs.TextLemmas.{all_within}
 use Rattle.vortex_bounds.proofs.laws.bounds_of_texts.Goals as goal
 
 pub returns-clause-lower : goal.returns-clause-lower
@@ -18,3 +19,6 @@ returns-clause-upper_length c = text_upper_short
 
 pub returns-clause-upper_text : goal.returns-clause-upper_text
 returns-clause-upper_text c = text_upper_utf8
+
+pub returns-clause-own_lower : goal.returns-clause-own_lower
+returns-clause-own_lower c = all_within

@@ -1,0 +1,5 @@
+pub mod CastFits
+pub mod Ranges
+pub mod Leaves
+pub mod Stored
+pub mod Inner

@@ -1,0 +1,3 @@
+pub mod Cast
+pub mod Answers
+pub mod inner

@@ -1,0 +1,4 @@
+pub mod Sized
+pub mod SizeOfRow
+pub mod DefaultRows
+pub mod TextLemmas

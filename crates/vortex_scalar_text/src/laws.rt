@@ -1,0 +1,77 @@
+//! Worked texts and sizes. Nothing here does anything when the program runs.
+
+ghost use Rattle.std.specs.Prelude.{◌≡◌, [], ◌∷◌, codes, false, negsuc, pos, true, None};
+ghost use Rattle.vortex_terms.specs.Term.{binary, boolean, decimal, extension, field};
+ghost use Rattle.vortex_terms.specs.Term.{fixed_size_list, list, no_fields, null, primitive};
+ghost use Rattle.vortex_terms.specs.Term.{signed_32, structure, unsigned_8, utf8};
+ghost use Rattle.vortex_terms.specs.Row.{bytes_row, list_row, no_rows, null_row, row};
+ghost use Rattle.vortex_terms.specs.Row.{whole_row};
+ghost use Rattle.vortex_value.specs.declared.decimal.DecimalValueType.TheVariants as width;
+ghost use Rattle.vortex_scalar_value.specs.Value.{bytes_value, decimal_value, list_value};
+ghost use Rattle.vortex_scalar_value.specs.Value.{no_values, null_value, text_value};
+ghost use Rattle.vortex_scalar_value.specs.Value.{truth_value, value, whole_value};
+ghost use Rattle.vortex_scalar_value.specs.ValueText.{value_text};
+ghost use Rattle.vortex_scalar_text.specs.ScalarText.{scalar_text};
+ghost use Rattle.vortex_scalar_text.specs.Size.{byte_size};
+
+/// Sizes of rows.
+pub fn sizes_are_worked()
+    ensures small { (byte_size null null_row ≡ 0) × (byte_size (boolean true) null_row ≡ 1)
+        × (byte_size (primitive signed_32 true) null_row ≡ 4) }
+    ensures decimals { (byte_size (decimal 38 (pos 0) true) null_row ≡ 16)
+        × (byte_size (decimal 39 (pos 0) true) null_row ≡ 32) }
+    ensures texts { (byte_size (utf8 false) (bytes_row (codes "ab")) ≡ 2)
+        × (byte_size (utf8 true) null_row ≡ 0) }
+    ensures lists { let t = fixed_size_list (list (primitive signed_32 false) true) 2 false in
+        let one = list_row (row (whole_row (pos 1)) no_rows) in
+        byte_size t (list_row (row one (row null_row no_rows))) ≡ 4 }
+    ensures structs { let fields = field (codes "a") (primitive signed_32 false)
+        (field (codes "b") (utf8 false) no_fields) in
+        let rows = row (whole_row (pos 1)) (row (bytes_row (codes "ab")) no_rows) in
+        byte_size (structure fields false) (list_row rows) ≡ 6 }
+{}
+
+/// Texts of scalars without parts.
+pub fn texts_are_worked()
+    ensures nulls { (scalar_text null null_value ≡ codes "null")
+        × (scalar_text (list null true) null_value ≡ codes "null") }
+    ensures truths { scalar_text (boolean false) (truth_value false) ≡ codes "false" }
+    ensures numbers { scalar_text (primitive signed_32 false) (whole_value unsigned_8 (pos 5))
+        ≡ codes "5i32" }
+    ensures decimals { let t = decimal 10 (pos 2) false in
+        scalar_text t (decimal_value width.I32 (pos 5))
+        ≡ codes "decimal32(5, precision=10, scale=2)" }
+    ensures bytes { scalar_text (binary false) (bytes_value (72 ∷ 10 ∷ [])) ≡ codes "\"48 a\"" }
+{}
+
+/// Texts of scalars with parts.
+pub fn nested_texts_are_worked()
+    ensures lists { let values = value (whole_value signed_32 (pos 1)) (value null_value no_values) in
+        scalar_text (list (primitive signed_32 true) false) (list_value values)
+        ≡ codes "[1i32, null]" }
+    ensures fixed { let values = value (whole_value unsigned_8 (pos 0)) no_values in
+        scalar_text (fixed_size_list (primitive unsigned_8 false) 1 false) (list_value values)
+        ≡ codes "fixed_size<1>[0u8]" }
+    ensures structs { let fields = field (codes "a") (primitive signed_32 false)
+        (field (codes "b") (boolean true) no_fields) in
+        let values = value (whole_value signed_32 (negsuc 0)) (value null_value no_values) in
+        scalar_text (structure fields false) (list_value values) ≡ codes "{a: -1i32, b: null}" }
+    ensures extensions { scalar_text (extension (codes "id") null None) null_value
+        ≡ codes "id(null)" }
+{}
+
+/// Texts of values without types.
+pub fn value_texts_are_worked()
+    ensures small { (value_text null_value ≡ codes "null")
+        × (value_text (truth_value true) ≡ codes "true") }
+    ensures numbers { value_text (whole_value unsigned_8 (pos 5)) ≡ codes "5u8" }
+    ensures decimals { value_text (decimal_value width.I8 (pos 5)) ≡ codes "decimal8(5)" }
+    ensures bytes { value_text (bytes_value (0 ∷ 26 ∷ [])) ≡ codes "001a" }
+    ensures long_bytes { value_text (bytes_value (codes "abcdefghijk"))
+        ≡ codes "6162636465..6768696a6b" }
+    ensures texts { value_text (text_value (codes "ab")) ≡ codes "\"ab\"" }
+    ensures long_texts { value_text (text_value (codes "abcdefghijk"))
+        ≡ codes "\"abcde..ghijk\"" }
+    ensures lists { let values = value (whole_value unsigned_8 (pos 1)) (value null_value no_values) in
+        value_text (list_value values) ≡ codes "[1u8,null]" }
+{}

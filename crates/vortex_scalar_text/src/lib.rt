@@ -1,0 +1,14 @@
+//! Sizes, defaults and texts of the rows of scalars.
+#![tactic(auto)]
+
+mod defaults;
+mod laws;
+mod sizes;
+mod texts;
+
+pub use defaults::default_value;
+pub use laws::{
+    nested_texts_are_worked, sizes_are_worked, texts_are_worked, value_texts_are_worked,
+};
+pub use sizes::byte_size;
+pub use texts::write_scalar;
