@@ -1,6 +1,7 @@
 //! The answer to a question.
 
 use crate::messages::messages_answer;
+use crate::operations::{bounds_answer, cast_answer, numeric_answer};
 use crate::protos::{proto_type_answer, resolve_answer};
 use crate::scalars::{order_answer, scalar_answer};
 use crate::types::{same_answer, type_answer};
@@ -83,14 +84,31 @@ pub(crate) fn answer(alloc: Global, line: &str) -> Result<String, AllocError> {
 
 fn asked(alloc: Global, line: &str) -> Result<String, Refusal> {
     let mut words = line.split(' ');
-    match (words.next(), words.next(), words.next(), words.next()) {
-        (Some("type"), Some(place), Some(bytes), None) => type_answer(alloc, place, bytes),
-        (Some("same"), Some(one), Some(other), None) => same_answer(alloc, one, other),
-        (Some("proto-type"), Some(bytes), None, None) => proto_type_answer(alloc, bytes),
-        (Some("resolve"), Some(path), Some(dtype), None) => resolve_answer(alloc, path, dtype),
-        (Some("scalar"), Some(bytes), None, None) => scalar_answer(alloc, bytes),
-        (Some("order"), Some(one), Some(other), None) => order_answer(alloc, one, other),
-        (Some("messages"), Some(sizes), Some(bytes), None) => messages_answer(alloc, sizes, bytes),
+    match (
+        words.next(),
+        words.next(),
+        words.next(),
+        words.next(),
+        words.next(),
+    ) {
+        (Some("type"), Some(place), Some(bytes), None, None) => type_answer(alloc, place, bytes),
+        (Some("same"), Some(one), Some(other), None, None) => same_answer(alloc, one, other),
+        (Some("proto-type"), Some(bytes), None, None, None) => proto_type_answer(alloc, bytes),
+        (Some("resolve"), Some(path), Some(dtype), None, None) => {
+            resolve_answer(alloc, path, dtype)
+        }
+        (Some("scalar"), Some(bytes), None, None, None) => scalar_answer(alloc, bytes),
+        (Some("order"), Some(one), Some(other), None, None) => order_answer(alloc, one, other),
+        (Some("numeric"), Some(op), Some(one), Some(other), None) => {
+            numeric_answer(alloc, op, one, other)
+        }
+        (Some("bounds"), Some(length), Some(bytes), None, None) => {
+            bounds_answer(alloc, length, bytes)
+        }
+        (Some("cast"), Some(scalar), Some(dtype), None, None) => cast_answer(alloc, scalar, dtype),
+        (Some("messages"), Some(sizes), Some(bytes), None, None) => {
+            messages_answer(alloc, sizes, bytes)
+        }
         _ => Err(Refusal::Unknown),
     }
 }

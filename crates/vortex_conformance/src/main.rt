@@ -4,6 +4,7 @@
 
 mod answers;
 mod messages;
+mod operations;
 mod protos;
 mod scalars;
 mod types;

@@ -7,13 +7,17 @@ use std::cmp::Ordering;
 use vortex_scalar::Scalar;
 
 /// How deep a type nests at most.
-const MOST_LEVELS: usize = 64;
+pub(crate) const MOST_LEVELS: usize = 64;
 
 /// The type of a scalar as text, and its row.
 pub(crate) fn scalar_answer(alloc: Global, bytes: &str) -> Result<String, Refusal> {
-    let scalar = scalar_of(alloc, bytes)?;
+    scalar_text(alloc, &scalar_of(alloc, bytes)?)
+}
+
+/// The answer that tells a scalar: the text of its type, and its row.
+pub(crate) fn scalar_text(alloc: Global, scalar: &Scalar) -> Result<String, Refusal> {
     let text = word_of(alloc, format!(in alloc; "{}", scalar.dtype())?.as_bytes())?;
-    let row = row_text(alloc, &scalar, MOST_LEVELS)?;
+    let row = row_text(alloc, scalar, MOST_LEVELS)?;
     Ok(format!(in alloc; "ok {text} {row}")?)
 }
 
@@ -30,14 +34,15 @@ pub(crate) fn order_answer(alloc: Global, one: &str, other: &str) -> Result<Stri
     Ok(String::from_str(alloc, text)?)
 }
 
-fn scalar_of(alloc: Global, bytes: &str) -> Result<Scalar, Refusal> {
+/// The scalar of a message.
+pub(crate) fn scalar_of(alloc: Global, bytes: &str) -> Result<Scalar, Refusal> {
     let bytes = buffer_of(alloc, bytes)?;
     Ok(Scalar::from_proto(alloc, bytes.as_slice())?)
 }
 
 /// The row of a scalar whose type nests at most so deep.
 #[cycle(rows)]
-fn row_text(alloc: Global, scalar: &Scalar, levels: usize) -> Result<String, Refusal> {
+pub(crate) fn row_text(alloc: Global, scalar: &Scalar, levels: usize) -> Result<String, Refusal> {
     if levels == 0 {
         return Err(Refusal::Unknown);
     }
@@ -101,7 +106,7 @@ fn leaf_text(alloc: Global, scalar: &Scalar) -> Result<String, Refusal> {
 }
 
 /// `x`, and the bytes as pairs of digits.
-fn bytes_text(alloc: Global, bytes: &[u8]) -> Result<String, Refusal> {
+pub(crate) fn bytes_text(alloc: Global, bytes: &[u8]) -> Result<String, Refusal> {
     let digits = hex::encode(alloc, bytes)?;
     Ok(format!(in alloc; "x{digits}")?)
 }

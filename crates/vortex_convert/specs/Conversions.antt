@@ -16,18 +16,15 @@ use Rattle.std.specs.Prelude.{◌≡◌, ℕ, ℤ, pos, negsuc, Bool, false, Lis
 use Rattle.std.specs.Option.{option_map}
 use Rattle.vortex_terms.specs.Term.{WholeKind, Term, boolean, primitive, decimal, utf8, binary, list, fixed_size_list}
 use Rattle.vortex_terms.specs.Equality.{kind_eq}
-use Rattle.vortex_terms.specs.Row.{Row, is_null, null_row, truth_row, whole_row, bytes_row, list_row, row_list, rows_from}
+use Rattle.vortex_terms.specs.Row.{Row, is_null, null_row, truth_row, bytes_row, list_row, row_list, rows_from}
 use Rattle.vortex_value.specs.declared.decimal.DecimalValueType.{DecimalValueType}
 use Rattle.vortex_value.specs.declared.decimal.DecimalValueType.TheVariants as width
 use Rattle.vortex_scalar_value.specs.declared.error.ScalarError.{ScalarError}
 use Rattle.vortex_scalar_value.specs.declared.error.ScalarError.TheVariants as error
 use Rattle.vortex_scalar.specs.ScalarTerm.{ScalarTerm}
+use Rattle.vortex_scalar.specs.ViewRows.{number_in}
 
 -- what a row holds, none for null and for rows of other forms
-abbrev pub number_of_row : Row → Option ℤ
-number_of_row (whole_row z) = Some z
-number_of_row _ = None
-
 abbrev pub truth_of_row : Row → Option Bool
 truth_of_row (truth_row b) = Some b
 truth_of_row _ = None
@@ -45,7 +42,7 @@ abbrev pub whole_in : WholeKind → ScalarTerm → Result (Option ℤ) ScalarErr
 whole_in k s = from s.dtype
   where
     from : Term → Result (Option ℤ) ScalarError
-    from (primitive l n) = if kind_eq k l then Ok (number_of_row s.row) else Err error.WrongType
+    from (primitive l n) = if kind_eq k l then Ok (number_in s.row) else Err error.WrongType
     from _ = Err error.WrongType
 
 -- whether it is the type of numbers of this kind
@@ -58,7 +55,7 @@ abbrev pub any_whole_in : ScalarTerm → Result (Option ℤ) ScalarError
 any_whole_in s = from s.dtype
   where
     from : Term → Result (Option ℤ) ScalarError
-    from (primitive l n) = Ok (number_of_row s.row)
+    from (primitive l n) = Ok (number_in s.row)
     from _ = Err error.WrongType
 
 -- a truth value
@@ -90,7 +87,7 @@ abbrev pub decimal_in : ScalarTerm → Result (Option ℤ) ScalarError
 decimal_in s = from s.dtype
   where
     from : Term → Result (Option ℤ) ScalarError
-    from (decimal p z n) = Ok (number_of_row s.row)
+    from (decimal p z n) = Ok (number_in s.row)
     from _ = Err error.WrongType
 
 -- the elements of a list, each with its type

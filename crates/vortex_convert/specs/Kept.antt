@@ -6,7 +6,7 @@
 use Rattle.std.specs.Prelude.{◌≡◌, Bool, true, false, List, [], ◌∷◌, map, Option, Some, None, Result, Ok, Err, if◌then◌else◌, unwrap_or}
 use Rattle.std.specs.Option.{option_map}
 use Rattle.std.proofs.Common.{refl, ap, ◌∙◌}
-use Rattle.vortex_terms.specs.Term.{WholeKind, Term, null, boolean, primitive, decimal, utf8, binary, structure, list, extension, fixed_size_list}
+use Rattle.vortex_terms.specs.Term.{WholeKind, Term, null, list}
 use Rattle.vortex_terms.specs.Row.{Row, null_row, truth_row, whole_row, bytes_row, list_row, is_null}
 use Rattle.vortex_terms.specs.RowLaws.{row_list-from}
 use Rattle.vortex_terms.specs.Nullability.{with_nullability}
@@ -31,150 +31,70 @@ IsEitherTaken takes = (t : Term) (n : Bool) → takes (with_nullability t n) ≡
 
 whole_by_types : (k : WholeKind) (t : Term) (n : Bool) (r : Row) → row_in whole_row (whole_in k) (typed (with_nullability t n) r) ≡ row_in whole_row (whole_in k) (typed t r)
 whole_by_types k null n r = refl
-whole_by_types k (boolean m) n r = refl
-whole_by_types k (primitive l m) n r = refl
-whole_by_types k (decimal p s m) n r = refl
-whole_by_types k (utf8 m) n r = refl
-whole_by_types k (binary m) n r = refl
-whole_by_types k (structure fs m) n r = refl
-whole_by_types k (list t m) n r = refl
-whole_by_types k (extension id t m) n r = refl
-whole_by_types k (fixed_size_list t l m) n r = refl
+whole_by_types k _ n r = refl
 
 pub whole_either : (k : WholeKind) → IsEither (row_in whole_row (whole_in k))
 whole_either k = whole_by_types k
 
 truth_by_types : (t : Term) (n : Bool) (r : Row) → row_in truth_row truth_in (typed (with_nullability t n) r) ≡ row_in truth_row truth_in (typed t r)
 truth_by_types null n r = refl
-truth_by_types (boolean m) n r = refl
-truth_by_types (primitive l m) n r = refl
-truth_by_types (decimal p s m) n r = refl
-truth_by_types (utf8 m) n r = refl
-truth_by_types (binary m) n r = refl
-truth_by_types (structure fs m) n r = refl
-truth_by_types (list t m) n r = refl
-truth_by_types (extension id t m) n r = refl
-truth_by_types (fixed_size_list t l m) n r = refl
+truth_by_types _ n r = refl
 
 pub truth_either : IsEither (row_in truth_row truth_in)
 truth_either = truth_by_types
 
 text_by_types : (t : Term) (n : Bool) (r : Row) → row_in bytes_row text_in (typed (with_nullability t n) r) ≡ row_in bytes_row text_in (typed t r)
 text_by_types null n r = refl
-text_by_types (boolean m) n r = refl
-text_by_types (primitive l m) n r = refl
-text_by_types (decimal p s m) n r = refl
-text_by_types (utf8 m) n r = refl
-text_by_types (binary m) n r = refl
-text_by_types (structure fs m) n r = refl
-text_by_types (list t m) n r = refl
-text_by_types (extension id t m) n r = refl
-text_by_types (fixed_size_list t l m) n r = refl
+text_by_types _ n r = refl
 
 pub text_either : IsEither (row_in bytes_row text_in)
 text_either = text_by_types
 
 bytes_by_types : (t : Term) (n : Bool) (r : Row) → row_in bytes_row bytes_in (typed (with_nullability t n) r) ≡ row_in bytes_row bytes_in (typed t r)
 bytes_by_types null n r = refl
-bytes_by_types (boolean m) n r = refl
-bytes_by_types (primitive l m) n r = refl
-bytes_by_types (decimal p s m) n r = refl
-bytes_by_types (utf8 m) n r = refl
-bytes_by_types (binary m) n r = refl
-bytes_by_types (structure fs m) n r = refl
-bytes_by_types (list t m) n r = refl
-bytes_by_types (extension id t m) n r = refl
-bytes_by_types (fixed_size_list t l m) n r = refl
+bytes_by_types _ n r = refl
 
 pub bytes_either : IsEither (row_in bytes_row bytes_in)
 bytes_either = bytes_by_types
 
 whole_test : (k : WholeKind) (t : Term) (n : Bool) → is_whole k (with_nullability t n) ≡ is_whole k t
 whole_test k null n = refl
-whole_test k (boolean m) n = refl
-whole_test k (primitive l m) n = refl
-whole_test k (decimal p s m) n = refl
-whole_test k (utf8 m) n = refl
-whole_test k (binary m) n = refl
-whole_test k (structure fs m) n = refl
-whole_test k (list t m) n = refl
-whole_test k (extension id t m) n = refl
-whole_test k (fixed_size_list t l m) n = refl
+whole_test k _ n = refl
 
 pub whole_taken : (k : WholeKind) → IsEitherTaken (is_whole k)
 whole_taken k = whole_test k
 
 boolean_test : (t : Term) (n : Bool) → is_boolean (with_nullability t n) ≡ is_boolean t
 boolean_test null n = refl
-boolean_test (boolean m) n = refl
-boolean_test (primitive l m) n = refl
-boolean_test (decimal p s m) n = refl
-boolean_test (utf8 m) n = refl
-boolean_test (binary m) n = refl
-boolean_test (structure fs m) n = refl
-boolean_test (list t m) n = refl
-boolean_test (extension id t m) n = refl
-boolean_test (fixed_size_list t l m) n = refl
+boolean_test _ n = refl
 
 pub boolean_taken : IsEitherTaken is_boolean
 boolean_taken = boolean_test
 
 text_test : (t : Term) (n : Bool) → is_utf8 (with_nullability t n) ≡ is_utf8 t
 text_test null n = refl
-text_test (boolean m) n = refl
-text_test (primitive l m) n = refl
-text_test (decimal p s m) n = refl
-text_test (utf8 m) n = refl
-text_test (binary m) n = refl
-text_test (structure fs m) n = refl
-text_test (list t m) n = refl
-text_test (extension id t m) n = refl
-text_test (fixed_size_list t l m) n = refl
+text_test _ n = refl
 
 pub text_taken : IsEitherTaken is_utf8
 text_taken = text_test
 
 bytes_test : (t : Term) (n : Bool) → is_binary (with_nullability t n) ≡ is_binary t
 bytes_test null n = refl
-bytes_test (boolean m) n = refl
-bytes_test (primitive l m) n = refl
-bytes_test (decimal p s m) n = refl
-bytes_test (utf8 m) n = refl
-bytes_test (binary m) n = refl
-bytes_test (structure fs m) n = refl
-bytes_test (list t m) n = refl
-bytes_test (extension id t m) n = refl
-bytes_test (fixed_size_list t l m) n = refl
+bytes_test _ n = refl
 
 pub bytes_taken : IsEitherTaken is_binary
 bytes_taken = bytes_test
 
 list_test : (t : Term) (n : Bool) → is_any_list (with_nullability t n) ≡ is_any_list t
 list_test null n = refl
-list_test (boolean m) n = refl
-list_test (primitive l m) n = refl
-list_test (decimal p s m) n = refl
-list_test (utf8 m) n = refl
-list_test (binary m) n = refl
-list_test (structure fs m) n = refl
-list_test (list t m) n = refl
-list_test (extension id t m) n = refl
-list_test (fixed_size_list t l m) n = refl
+list_test _ n = refl
 
 pub list_taken : IsEitherTaken is_any_list
 list_taken = list_test
 
 list_by_types : (read : Reads) (t : Term) (n : Bool) (r : Row) → row_in list_of (list_in read) (typed (with_nullability t n) r) ≡ row_in list_of (list_in read) (typed t r)
 list_by_types read null n r = refl
-list_by_types read (boolean m) n r = refl
-list_by_types read (primitive l m) n r = refl
-list_by_types read (decimal p s m) n r = refl
-list_by_types read (utf8 m) n r = refl
-list_by_types read (binary m) n r = refl
-list_by_types read (structure fs m) n r = refl
-list_by_types read (list t m) n r = refl
-list_by_types read (extension id t m) n r = refl
-list_by_types read (fixed_size_list t l m) n r = refl
+list_by_types read _ n r = refl
 
 pub list_either : (read : Reads) → IsEither (row_in list_of (list_in read))
 list_either read = list_by_types read

@@ -1,7 +1,7 @@
 -- A type that is not the call's is a WrongType.
 use Rattle.std.specs.Prelude.{◌≡◌, Bool, true, false, Result, Ok, Err, if◌then◌else◌}
 use Rattle.std.proofs.Common.{refl}
-use Rattle.vortex_terms.specs.Term.{WholeKind, Term, null, boolean, primitive, decimal, utf8, binary, structure, list, extension, fixed_size_list}
+use Rattle.vortex_terms.specs.Term.{WholeKind, Term, boolean, primitive, utf8, binary, list, fixed_size_list}
 use Rattle.vortex_terms.specs.Row.{Row, truth_row, whole_row, bytes_row}
 use Rattle.vortex_types.specs.Predicates.{is_boolean, is_utf8, is_binary}
 use Rattle.vortex_scalar_value.specs.declared.error.ScalarError.{ScalarError}
@@ -9,7 +9,8 @@ use Rattle.vortex_scalar_value.specs.declared.error.ScalarError.TheVariants as e
 use Rattle.vortex_scalar.specs.ScalarTerm.{ScalarTerm}
 use Rattle.vortex_scalar.specs.Made.{typed}
 use Rattle.vortex_scalar.specs.LargeViews.{is_any_list}
-use Rattle.vortex_convert.specs.Conversions.{whole_in, truth_in, text_in, bytes_in, row_in, list_in, list_of, optional, is_whole, number_of_row, result_map, not_null}
+use Rattle.vortex_scalar.specs.ViewRows.{number_in}
+use Rattle.vortex_convert.specs.Conversions.{whole_in, truth_in, text_in, bytes_in, row_in, list_in, list_of, optional, is_whole, result_map, not_null}
 
 -- the answer is that the type is wrong
 abbrev pub IsRefused : Result Row ScalarError → Type 0
@@ -19,16 +20,8 @@ apart : true ≡ false → ⊥
 apart e = absurd cc
 
 whole : (k : WholeKind) (t : Term) (r : Row) → is_whole k t ≡ false → IsRefused (row_in whole_row (whole_in k) (typed t r))
-whole k (primitive l n) r e = λ i. result_map whole_row (not_null (if e i then Ok (number_of_row r) else Err error.WrongType))
-whole k null r e = refl
-whole k (boolean n) r e = refl
-whole k (decimal p s n) r e = refl
-whole k (utf8 n) r e = refl
-whole k (binary n) r e = refl
-whole k (structure fs n) r e = refl
-whole k (list t n) r e = refl
-whole k (extension id t m) r e = refl
-whole k (fixed_size_list t l n) r e = refl
+whole k (primitive l n) r e = λ i. result_map whole_row (not_null (if e i then Ok (number_in r) else Err error.WrongType))
+whole k _ r e = refl
 
 pub whole_refused : (k : WholeKind) (s : ScalarTerm) → is_whole k s.dtype ≡ false → IsRefused (row_in whole_row (whole_in k) s)
 whole_refused k s e = whole k s.dtype s.row e
@@ -57,14 +50,7 @@ bytes_refused s e = bytes s.dtype s.row e
 elements : (read : ScalarTerm → Result Row ScalarError) (t : Term) (r : Row) → is_any_list t ≡ false → IsRefused (row_in list_of (list_in read) (typed t r))
 elements read (list t n) r e = absurd (apart e)
 elements read (fixed_size_list t k n) r e = absurd (apart e)
-elements read null r e = refl
-elements read (boolean n) r e = refl
-elements read (primitive k n) r e = refl
-elements read (decimal p s n) r e = refl
-elements read (utf8 n) r e = refl
-elements read (binary n) r e = refl
-elements read (structure fs n) r e = refl
-elements read (extension id t m) r e = refl
+elements read _ r e = refl
 
 pub elements_refused : (read : ScalarTerm → Result Row ScalarError) (s : ScalarTerm) → is_any_list s.dtype ≡ false → IsRefused (row_in list_of (list_in read) s)
 elements_refused read s e = elements read s.dtype s.row e

@@ -7,8 +7,8 @@ use Rattle.vortex_terms.specs.Equality.{is_same}
 use Rattle.vortex_terms.specs.EqualityLaws.{is_same-Decides}
 use Rattle.vortex_terms.specs.Row.{Row, null_row}
 use Rattle.vortex_scalar_value.specs.Value.{ValueTerm}
-use Rattle.vortex_scalar.specs.RowOf.{row_of, row_under, fitting_row}
-use Rattle.vortex_scalar.specs.RowLaws.{row_of-same}
+use Rattle.vortex_value_rows.specs.RowOf.{row_of, row_under, fitting_row}
+use Rattle.vortex_value_rows.specs.RowLaws.{row_of-same}
 use Rattle.vortex_scalar.specs.Made.{scalar_of}
 use Rattle.vortex_scalar.proofs.Rows.{fitted}
 

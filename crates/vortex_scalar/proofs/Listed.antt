@@ -11,7 +11,7 @@ use Rattle.vortex_terms.specs.Nullability.{with_nullability}
 use Rattle.vortex_types.specs.Accessors.{fields_of}
 use Rattle.vortex_types.specs.Predicates.{is_struct}
 use Rattle.vortex_scalar_value.specs.Value.{ValueTerm, null_value, truth_value, whole_value, decimal_value, bytes_value, text_value, list_value, ValueTerms, no_values, value, values_from}
-use Rattle.vortex_scalar.specs.RowOf.{row_of, field_rows, rows_by, row_before}
+use Rattle.vortex_value_rows.specs.RowOf.{row_of, field_rows, rows_by, row_before}
 use Rattle.vortex_scalar.specs.ScalarTerm.{ScalarTerm}
 use Rattle.vortex_scalar.specs.Made.{rows_inside}
 use Rattle.vortex_scalar.specs.inner.Kept.{AreIn, IsListOf}

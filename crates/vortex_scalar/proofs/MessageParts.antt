@@ -22,7 +22,7 @@ use Rattle.vortex_scalar_value.proofs.Written.{value_written, levels_read}
 use Rattle.vortex_scalar_value.proofs.Standing.{one_value}
 use Rattle.vortex_scalar_value.specs.declared.error.ScalarError.{ScalarError}
 use Rattle.vortex_scalar_value.specs.declared.error.ScalarError.TheVariants as error
-use Rattle.vortex_scalar.specs.RowOf.{row_of, fitting_row}
+use Rattle.vortex_value_rows.specs.RowOf.{row_of, fitting_row}
 use Rattle.vortex_scalar.specs.ScalarTerm.{ScalarTerm}
 use Rattle.vortex_scalar.specs.Made.{scalar_of}
 use Rattle.vortex_scalar.specs.ScalarMessage.{HoldsType, HoldsValue, IsReadScalar, scalar_bytes, WritesScalar}

@@ -15,7 +15,7 @@ use Rattle.vortex_terms.specs.Row.{Row, whole_row, list_row, Rows}
 use Rattle.vortex_scalar_value.specs.Value.{ValueTerm, null_value, truth_value, whole_value, decimal_value, bytes_value, text_value, list_value, ValueTerms, no_values, value, value_levels, values_levels}
 use Rattle.vortex_scalar_value.specs.ValueBytes.{decimal_bytes, as_read, all_as_read}
 use Rattle.vortex_scalar_value.specs.Held.{IsHeld, AreHeld}
-use Rattle.vortex_scalar.specs.RowOf.{number_of_bytes, row_before, row_of, rows_by, field_rows}
+use Rattle.vortex_value_rows.specs.RowOf.{number_of_bytes, row_before, row_of, rows_by, field_rows}
 
 -- ---- the row
 

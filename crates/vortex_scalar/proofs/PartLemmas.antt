@@ -9,7 +9,7 @@ use Rattle.vortex_terms.specs.Row.{row_list, Row, Rows, null_row, truth_row, who
 use Rattle.vortex_terms.specs.Fits.{Fits}
 use Rattle.vortex_terms.specs.RowListLaws.{FitsFields-places}
 use Rattle.vortex_scalar_value.specs.Value.{ValueTerm, null_value, truth_value, whole_value, decimal_value, bytes_value, text_value, list_value, ValueTerms, no_values, value, values_from, value_list}
-use Rattle.vortex_scalar.specs.RowOf.{row_of, fitting_row, number_of_bytes, field_rows, rows_by, row_before}
+use Rattle.vortex_value_rows.specs.RowOf.{row_of, fitting_row, number_of_bytes, field_rows, rows_by, row_before}
 use Rattle.vortex_scalar.specs.ScalarTerm.{ScalarTerm}
 use Rattle.vortex_scalar.specs.Made.{typed, scalar_of}
 use Rattle.vortex_scalar.specs.LargeViews.{storage_scalar, rows_within, count_within, part_type, part_scalar, typed_rows, field_scalars, part_scalars}

@@ -16,7 +16,7 @@ use Rattle.vortex_types.specs.Predicates.{is_struct}
 use Rattle.vortex_scalar_value.specs.Value.{ValueTerm, null_value, list_value, ValueTerms, no_values, value, values_from, value_list}
 use Rattle.vortex_scalar_value.specs.declared.error.ScalarError.{ScalarError}
 use Rattle.vortex_scalar_value.specs.declared.error.ScalarError.TheVariants as error
-use Rattle.vortex_scalar.specs.RowOf.{row_of, fitting_row, field_rows, row_before}
+use Rattle.vortex_value_rows.specs.RowOf.{row_of, fitting_row, field_rows, row_before}
 use Rattle.vortex_scalar.specs.ScalarTerm.{ScalarTerm}
 use Rattle.vortex_scalar.specs.Made.{typed, scalar_of}
 use Rattle.vortex_scalar.specs.LargeViews.{named_row, projected_row, projected_scalar}

@@ -11,7 +11,7 @@ use Rattle.vortex_terms.specs.Fits.{Fits}
 use Rattle.vortex_terms.specs.Tests.{is_fitting}
 use Rattle.vortex_terms.specs.TestLaws.{is_fitting-Decides}
 use Rattle.vortex_scalar_value.specs.Value.{ValueTerm, null_value, truth_value, whole_value, decimal_value, bytes_value, text_value, list_value, is_null_value}
-use Rattle.vortex_scalar.specs.RowOf.{row_of, fitting_row, number_of_bytes, field_rows, rows_by}
+use Rattle.vortex_value_rows.specs.RowOf.{row_of, fitting_row, number_of_bytes, field_rows, rows_by}
 use Rattle.vortex_scalar.specs.ScalarTerm.{ScalarTerm}
 use Rattle.vortex_scalar.specs.Made.{typed, scalar_of, text_scalar, IsScalarOf}
 

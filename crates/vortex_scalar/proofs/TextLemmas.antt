@@ -13,7 +13,7 @@ use Rattle.vortex_buffer.specs.Buffer.{Buffer}
 use Rattle.vortex_buffer.specs.declared.error.BufferError.{BufferError}
 use Rattle.vortex_buffer.specs.declared.error.BufferError.TheVariants as buffer_error
 use Rattle.vortex_scalar_value.specs.Value.{ValueTerm, bytes_value, text_value}
-use Rattle.vortex_scalar.specs.RowOf.{row_of, fitting_row}
+use Rattle.vortex_value_rows.specs.RowOf.{row_of, fitting_row}
 use Rattle.vortex_scalar.specs.ScalarTerm.{ScalarTerm}
 use Rattle.vortex_scalar.specs.Made.{scalar_of}
 use Rattle.vortex_scalar.specs.inner.Parts.{content}

@@ -18,7 +18,8 @@ use Rattle.vortex_terms.specs.Order.{row_cmp, row_eq}
 use Rattle.vortex_terms.specs.OrderLaws.{row_cmp_total, row_eq-Decides}
 use Rattle.vortex_scalar.specs.ScalarTerm.{ScalarTerm}
 use Rattle.vortex_scalar.specs.Compare.{scalar_eq, scalar_cmp}
-use Rattle.vortex_scalar.specs.HashInput.{row_writes, scalar_writes}
+use Rattle.vortex_value_rows.specs.HashInput.{row_writes}
+use Rattle.vortex_scalar.specs.HashInput.{scalar_writes}
 
 same_equivalence : IsEquivalence is_same
 same_equivalence = on_equiv bare (decided _ term_eq-Decides)

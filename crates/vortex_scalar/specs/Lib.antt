@@ -1,8 +1,7 @@
-pub mod RowOf
-pub mod RowLaws
 pub mod ScalarTerm
 pub mod Answers
 pub mod Made
+pub mod Cast
 pub mod Compare
 pub mod HashInput
 pub mod ScalarMessage
@@ -14,3 +13,7 @@ pub mod TextViews
 pub mod TextLaws
 pub mod inner
 pub mod EqualLaws
+pub mod Recast
+pub mod Arithmetic
+pub mod Bounds
+pub mod Printed

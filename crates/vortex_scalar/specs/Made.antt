@@ -12,7 +12,7 @@ use Rattle.vortex_terms.specs.Fits.{Fits}
 use Rattle.vortex_scalar_value.specs.Value.{ValueTerm}
 use Rattle.vortex_scalar_value.specs.declared.error.ScalarError.{ScalarError}
 use Rattle.vortex_scalar_value.specs.declared.error.ScalarError.TheVariants as error
-use Rattle.vortex_scalar.specs.RowOf.{row_of, fitting_row}
+use Rattle.vortex_value_rows.specs.RowOf.{row_of, fitting_row}
 use Rattle.vortex_scalar.specs.ScalarTerm.{ScalarTerm}
 
 -- the row under the type

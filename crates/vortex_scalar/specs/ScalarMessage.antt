@@ -20,7 +20,7 @@ use Rattle.vortex_scalar_value.specs.ValueMessage.{IsValueMessage}
 use Rattle.vortex_scalar_value.specs.ValueBytes.{value_bytes}
 use Rattle.vortex_scalar_value.specs.declared.error.ScalarError.{ScalarError}
 use Rattle.vortex_scalar_value.specs.declared.error.ScalarError.TheVariants as error
-use Rattle.vortex_scalar.specs.RowOf.{row_of}
+use Rattle.vortex_value_rows.specs.RowOf.{row_of}
 use Rattle.vortex_scalar.specs.ScalarTerm.{ScalarTerm}
 use Rattle.vortex_scalar.specs.declared.schema.TheConstants.{SCALAR_DTYPE, SCALAR_VALUE}
 

@@ -12,7 +12,7 @@ use Rattle.vortex_terms.specs.Row.{Row, null_row, truth_row, whole_row}
 use Rattle.vortex_scalar_value.specs.Value.{ValueTerm}
 use Rattle.vortex_scalar_value.specs.declared.error.ScalarError.{ScalarError}
 use Rattle.vortex_scalar_value.specs.declared.error.ScalarError.TheVariants as error
-use Rattle.vortex_scalar.specs.RowOf.{fitting_row}
+use Rattle.vortex_value_rows.specs.RowOf.{fitting_row}
 use Rattle.vortex_scalar.specs.ScalarTerm.{ScalarTerm}
 use Rattle.vortex_scalar.specs.Made.{typed}
 

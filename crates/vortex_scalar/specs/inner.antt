@@ -1,5 +1,3 @@
-pub mod Inside
-pub mod Held
 pub mod Kept
 pub mod Parts
 pub mod HeldValues

@@ -108,6 +108,6 @@ impl Scalar {
 }
 
 /// Each byte is below 256. It does nothing when the program runs.
-fn bytes_law(bytes: &[u8])
+pub(crate) fn bytes_law(bytes: &[u8])
     ensures { IsBytes bytes.now }
 {}

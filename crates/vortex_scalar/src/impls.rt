@@ -6,19 +6,18 @@ ghost use Rattle.std.specs.Cmp.{partial_equiv_from_equiv};
 ghost use Rattle.vortex_terms.specs.Equality.{is_same};
 ghost use Rattle.vortex_terms.specs.Order.{row_cmp};
 ghost use Rattle.vortex_types.specs.DTypes.{term_of};
-ghost use Rattle.vortex_scalar.specs.RowOf.{fitting_row};
+ghost use Rattle.vortex_value_rows.specs.RowOf.{fitting_row};
 ghost use Rattle.vortex_scalar.specs.Made.{scalar_of};
 ghost use Rattle.vortex_scalar.specs.Compare.{scalar_eq, scalar_cmp};
 ghost use Rattle.vortex_scalar.specs.HashInput.{scalar_writes};
 ghost use Rattle.vortex_scalar.specs.EqualLaws.{scalar_equivalence, scalar_order, scalar_alike};
 
-use crate::hash::hash_row;
-use crate::order::compare;
 use crate::scalar::Scalar;
 use std::cmp::Ordering;
 use std::hash::{Hash, Hasher};
 use vortex_scalar_value::ScalarValue;
 use vortex_types::DType;
+use vortex_value_rows::{compare, hash_row};
 
 impl PartialEq for Scalar {
     ghost eq = { scalar_eq };

@@ -2,28 +2,19 @@
 #![tactic(auto)]
 
 mod build;
-mod fit;
-mod hash;
+mod cast;
 mod impls;
-mod inside;
-mod leaf;
 mod message;
 mod message_laws;
-#[cfg(test)]
-mod message_tests;
 mod nested;
-mod order;
-mod row_laws;
-mod row_ref;
 mod scalar;
 mod scalar_type;
 mod schema;
-#[cfg(test)]
-mod tests;
+mod sizes;
 mod views;
+mod worked;
 
 pub use message_laws::{written_rows_stay, written_scalars_are_read};
-pub use row_laws::rows_ignore_nullability;
 pub use scalar::Scalar;
 pub use scalar_type::ScalarType;
 pub use schema::scalar_schema;
@@ -32,3 +23,5 @@ pub use views::{
     Utf8Scalar,
 };
 pub use vortex_scalar_value::{ScalarError, ScalarValue, ValueRef};
+pub use vortex_value_rows::rows_ignore_nullability;
+pub use worked::{arithmetic_is_worked, bounds_of_scalars, scalar_bounds_are_worked};

@@ -8,7 +8,7 @@ ghost use Rattle.vortex_terms.specs.Types.{Bounded, levels};
 ghost use Rattle.vortex_scalar_value.specs.Held.{IsHeld};
 ghost use Rattle.vortex_scalar_value.specs.Value.{ValueTerm, value_levels};
 ghost use Rattle.vortex_scalar_value.specs.ValueBytes.{as_read, value_bytes};
-ghost use Rattle.vortex_scalar.specs.RowOf.{row_of};
+ghost use Rattle.vortex_value_rows.specs.RowOf.{row_of};
 ghost use Rattle.vortex_scalar.specs.ScalarMessage.{IsReadScalar, scalar_bytes};
 ghost use Rattle.vortex_scalar.specs.ScalarTerm.{ScalarTerm};
 

@@ -6,14 +6,14 @@ ghost use Rattle.vortex_terms.specs.Types.{Legal};
 ghost use Rattle.vortex_terms.specs.Row.{is_null};
 ghost use Rattle.vortex_terms.specs.Fits.{Fits};
 ghost use Rattle.vortex_types.specs.DTypes.{term_of};
-ghost use Rattle.vortex_scalar.specs.RowOf.{row_of, fitting_row};
+ghost use Rattle.vortex_value_rows.specs.RowOf.{row_of, fitting_row};
 ghost use Rattle.vortex_scalar.specs.Made.{scalar_of, IsScalarOf};
 
-use crate::fit::fits;
 use std::alloc::Global;
 use std::marker::Model;
 use vortex_scalar_value::{ScalarError, ScalarValue};
 use vortex_types::DType;
+use vortex_value_rows::fits;
 
 /// A type and a value that fits it. Contracts see it as its type and its row.
 #[derive(Drop)]
@@ -25,7 +25,7 @@ pub struct Scalar {
 impl Model for Scalar {
     ghost use Rattle.std.specs.Option.{IsSome};
     ghost use Rattle.vortex_types.specs.DTypes.{term_of};
-    ghost use Rattle.vortex_scalar.specs.RowOf.{fitting_row};
+    ghost use Rattle.vortex_value_rows.specs.RowOf.{fitting_row};
     ghost use Rattle.vortex_scalar.specs.ScalarTerm.{ScalarTerm, coded_scalar};
     ghost use Rattle.vortex_scalar.specs.Made.{scalar_of};
 

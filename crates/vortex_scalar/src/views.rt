@@ -1,12 +1,15 @@
 //! Views of scalars, by kinds of types.
 
+mod arithmetic;
 mod binary;
 mod bool;
+mod bounds;
 mod compare;
 mod content;
 mod decimal;
+mod display;
 mod extension;
-mod fitting;
+pub(crate) mod fitting;
 mod held;
 mod kinds;
 mod list;
@@ -25,8 +28,3 @@ pub use extension::ExtScalar;
 pub use list::ListScalar;
 pub use struct_::StructScalar;
 pub use utf8::Utf8Scalar;
-
-#[cfg(test)]
-mod leaf_tests;
-#[cfg(test)]
-mod part_tests;

@@ -2,7 +2,7 @@
 use Rattle.std.specs.Prelude.{◌≡◌, List, [], ◌∷◌, Some}
 use Rattle.vortex_terms.specs.Fits.{Fits}
 use Rattle.vortex_scalar_value.specs.Value.{ValueTerm, list_value, ValueTerms, no_values, value}
-use Rattle.vortex_scalar.specs.RowOf.{row_of}
+use Rattle.vortex_value_rows.specs.RowOf.{row_of}
 use Rattle.vortex_scalar.specs.ScalarTerm.{ScalarTerm}
 
 -- each value has the row of the scalar at its place

@@ -8,11 +8,11 @@ ghost use Rattle.vortex_types.specs.Predicates.{is_decimal};
 ghost use Rattle.vortex_value.specs.DecimalValue.{decimal_number};
 ghost use Rattle.vortex_scalar.specs.ViewRows.{or_null};
 
-use crate::leaf::number_of_bytes;
 use crate::scalar::Scalar;
 use vortex_scalar_value::{ScalarError, ScalarValue, ValueRef};
 use vortex_types::DType;
 use vortex_value::DecimalValue;
+use vortex_value_rows::number_of_bytes;
 
 /// The number of a decimal or null, and its type. Contracts see it as its type and its row, by
 /// `decimal_term`.

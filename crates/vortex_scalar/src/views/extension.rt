@@ -24,7 +24,7 @@ use vortex_types::{DType, ExtDType};
 /// A scalar of an extension type. Contracts see it as its type and its row.
 #[derive(Drop)]
 pub struct ExtScalar<'a> {
-    fitting: Fitting<'a>,
+    pub(super) fitting: Fitting<'a>,
 }
 
 impl<'a> Model for ExtScalar<'a> {

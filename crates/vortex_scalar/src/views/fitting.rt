@@ -9,7 +9,7 @@ ghost use Rattle.vortex_types.specs.DTypes.{term_of};
 ghost use Rattle.vortex_types.specs.Predicates.{is_utf8};
 ghost use Rattle.vortex_scalar.specs.ViewRows.{or_null};
 ghost use Rattle.vortex_scalar.specs.LargeViews.{holds_bytes};
-ghost use Rattle.vortex_scalar.specs.RowOf.{row_of, fitting_row};
+ghost use Rattle.vortex_value_rows.specs.RowOf.{row_of, fitting_row};
 ghost use Rattle.vortex_scalar.specs.Made.{scalar_of, typed};
 ghost use Rattle.vortex_scalar.specs.Compare.{scalar_eq, scalar_cmp};
 ghost use Rattle.vortex_scalar.specs.HashInput.{scalar_writes};
@@ -18,7 +18,6 @@ ghost use Rattle.vortex_scalar.specs.LargeViews.{count_within};
 ghost use Rattle.vortex_scalar.specs.inner.Parts.{values_within, value_within};
 
 use super::content::{buffer_in, bytes_in, string_in, text_in};
-use crate::fit::fits;
 use crate::impls::{compare_values, equal_values, hash_value};
 use crate::scalar::Scalar;
 use std::alloc::Global;
@@ -28,6 +27,7 @@ use std::marker::Model;
 use vortex_buffer::{BufferString, ByteBuffer};
 use vortex_scalar_value::{ScalarError, ScalarValue, ValueRef};
 use vortex_types::{DType, StructFields};
+use vortex_value_rows::fits;
 
 /// A type and a value that fits it, both lent. Contracts see it as its type and its row.
 #[derive(Drop)]
@@ -39,7 +39,7 @@ pub(crate) struct Fitting<'a> {
 impl<'a> Model for Fitting<'a> {
     ghost use Rattle.std.specs.Option.{IsSome};
     ghost use Rattle.vortex_types.specs.DTypes.{term_of};
-    ghost use Rattle.vortex_scalar.specs.RowOf.{fitting_row};
+    ghost use Rattle.vortex_value_rows.specs.RowOf.{fitting_row};
     ghost use Rattle.vortex_scalar.specs.ScalarTerm.{ScalarTerm, coded_scalar};
     ghost use Rattle.vortex_scalar.specs.Made.{scalar_of};
 

@@ -1,17 +1,21 @@
 //! A type and a value that fits it, the value being lent or owned.
 
-ghost use Rattle.std.specs.Prelude.{◌≡◌, ok_or, IfOk};
+ghost use Rattle.std.specs.Prelude.{◌≡◌, ok_or, IfOk, IsTrue, IsOkUnless};
 ghost use Rattle.std.specs.Option.{IsSome, option_map};
+ghost use Rattle.vortex_terms.specs.Row.{bytes_row};
 ghost use Rattle.vortex_types.specs.DTypes.{term_of};
-ghost use Rattle.vortex_scalar.specs.RowOf.{fitting_row};
+ghost use Rattle.vortex_types.specs.Predicates.{is_utf8, is_binary};
+ghost use Rattle.vortex_value_rows.specs.RowOf.{fitting_row};
 ghost use Rattle.vortex_scalar.specs.Made.{scalar_of, typed};
 
 use super::fitting::Fitting;
-use crate::fit::fits;
+use crate::build::bytes_law;
 use crate::scalar::Scalar;
+use std::alloc::Global;
 use std::marker::Model;
 use vortex_scalar_value::{ScalarError, ScalarValue};
 use vortex_types::DType;
+use vortex_value_rows::fits;
 
 /// A type and a value that fits it. Contracts see it as its type and its row.
 #[derive(Drop)]
@@ -30,7 +34,7 @@ pub(crate) enum HeldValue<'a> {
 impl<'a> Model for Held<'a> {
     ghost use Rattle.std.specs.Option.{IsSome};
     ghost use Rattle.vortex_types.specs.DTypes.{term_of};
-    ghost use Rattle.vortex_scalar.specs.RowOf.{fitting_row};
+    ghost use Rattle.vortex_value_rows.specs.RowOf.{fitting_row};
     ghost use Rattle.vortex_scalar.specs.ScalarTerm.{ScalarTerm, coded_scalar};
     ghost use Rattle.vortex_scalar.specs.Made.{scalar_of};
 
@@ -85,6 +89,33 @@ impl<'a> Held<'a> {
         } else {
             Err(ScalarError::DoesNotFit)
         }
+    }
+
+    /// A text under a type of texts, copied.
+    pub(super) fn text(alloc: Global, dtype: &'a DType, text: &str) -> Result<Held<'a>, ScalarError>
+        requires { IsTrue (is_utf8 (term_of dtype.now)) }
+        ensures scalar { IfOk result (λ s. s ≡ typed (term_of dtype.now) (bytes_row text.now)) }
+        ensures memory { IsOkUnless result ScalarError.OutOfMemory }
+    {
+        let value = ScalarValue::from_text(alloc, text)?;
+        let value = HeldValue::Owned(value);
+        Ok(Held { dtype, value })
+    }
+
+    /// Bytes under a type of bytes, copied.
+    pub(super) fn bytes(
+        alloc: Global,
+        dtype: &'a DType,
+        bytes: &[u8],
+    ) -> Result<Held<'a>, ScalarError>
+        requires { IsTrue (is_binary (term_of dtype.now)) }
+        ensures scalar { IfOk result (λ s. s ≡ typed (term_of dtype.now) (bytes_row bytes.now)) }
+        ensures memory { IsOkUnless result ScalarError.OutOfMemory }
+    {
+        bytes_law(bytes);
+        let value = ScalarValue::from_bytes(alloc, bytes)?;
+        let value = HeldValue::Owned(value);
+        Ok(Held { dtype, value })
     }
 
     /// The type.

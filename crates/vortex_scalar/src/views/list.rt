@@ -27,7 +27,7 @@ use vortex_types::DType;
 /// its row.
 #[derive(Drop)]
 pub struct ListScalar<'a> {
-    fitting: Fitting<'a>,
+    pub(super) fitting: Fitting<'a>,
 }
 
 impl<'a> Model for ListScalar<'a> {

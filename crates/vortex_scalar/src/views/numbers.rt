@@ -3,7 +3,7 @@
 ghost use Rattle.std.specs.Prelude.{◌≡◌, fold};
 ghost use Rattle.vortex_terms.specs.Row.{whole_row};
 ghost use Rattle.vortex_terms.specs.Order.{row_cmp, row_eq};
-ghost use Rattle.vortex_scalar.specs.HashInput.{row_writes};
+ghost use Rattle.vortex_value_rows.specs.HashInput.{row_writes};
 ghost use Rattle.vortex_scalar.specs.ViewRows.{or_null};
 
 use std::cmp::Ordering;

@@ -21,9 +21,9 @@ use vortex_value::{NativePType, PValue};
 /// and its row, by `primitive_term`.
 #[derive(Clone, Copy)]
 pub struct PrimitiveScalar<'a> {
-    dtype: &'a DType,
-    ptype: PType,
-    pvalue: Option<PValue>,
+    pub(super) dtype: &'a DType,
+    pub(super) ptype: PType,
+    pub(super) pvalue: Option<PValue>,
     ghost kind: { whole_kind_of (term_of dtype.now) ≡ Some (whole_kind ptype) },
     ghost own: { ForSome pvalue (λ v. kind_of v ≡ ptype) },
     ghost fits: { IsTrue (is_fitting (term_of dtype.now)

@@ -13,6 +13,7 @@ ghost use Rattle.vortex_types.specs.DTypes.{term_of};
 ghost use Rattle.vortex_types.specs.Predicates.{is_struct};
 ghost use Rattle.vortex_scalar_value.specs.Value.{list_value, values_from};
 ghost use Rattle.vortex_scalar.specs.Answers.{Answers};
+ghost use Rattle.vortex_scalar.specs.Cast.{cast_scalar};
 ghost use Rattle.vortex_scalar.specs.LargeViews.{kept_if, part_scalar, part_scalars};
 ghost use Rattle.vortex_scalar.specs.LargeViews.{field_scalar, projected_scalar};
 ghost use Rattle.vortex_scalar.specs.inner.Parts.{named_value, projected_value};
@@ -33,7 +34,7 @@ use vortex_types::{DType, StructFields};
 /// A scalar of a struct type. Contracts see it as its type and its row.
 #[derive(Drop)]
 pub struct StructScalar<'a> {
-    fitting: Fitting<'a>,
+    pub(super) fitting: Fitting<'a>,
 }
 
 impl<'a> Model for StructScalar<'a> {
@@ -129,6 +130,16 @@ impl<'a> StructScalar<'a> {
         ensures memory { IsOkUnless result ScalarError.OutOfMemory }
     {
         self.fitting.parts(alloc)
+    }
+
+    /// The scalar under another type, as `Scalar::cast` makes it: fields go by position whatever
+    /// their names. The refusals in order: `CastNull` for null under a type that is not nullable;
+    /// `CastKind` for a type that is none of structs; `CastFields` for another number of fields;
+    /// then the first refusal inside. `OutOfMemory` may come at any time.
+    pub fn cast(&self, alloc: Global, target: &DType) -> Result<Scalar, ScalarError>
+        ensures cast { Answers (λ s. s) result (cast_scalar self.now (term_of target.now)) }
+    {
+        self.fitting.cast(alloc, target)
     }
 
     /// The struct of the first field of each of these names, in their order. FieldNotFound comes

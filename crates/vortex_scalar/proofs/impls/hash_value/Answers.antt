@@ -3,7 +3,7 @@ use Rattle.std.specs.Prelude.{fold}
 use Rattle.vortex_terms.specs.Types.{type_number}
 use Rattle.vortex_types.specs.DTypes.{term_of}
 use Rattle.vortex_types.specs.TypeRefs.{ref_term}
-use Rattle.vortex_scalar.specs.HashInput.{row_writes}
+use Rattle.vortex_value_rows.specs.HashInput.{row_writes}
 use Rattle.vortex_scalar.proofs.Compared.{own_row, has_row, under}
 use Rattle.vortex_scalar.proofs.impls.hash_value.Goals as goal
 

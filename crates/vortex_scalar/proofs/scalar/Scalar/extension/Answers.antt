@@ -1,7 +1,7 @@
 use Rattle.std.proofs.Common.{◌≡◌, Some, ap, subst}
 use Rattle.vortex_terms.specs.Fits.{Fits}
 use Rattle.vortex_types.specs.ExtTerm.{ext_type}
-use Rattle.vortex_scalar.specs.RowOf.{row_of}
+use Rattle.vortex_value_rows.specs.RowOf.{row_of}
 use Rattle.vortex_scalar.proofs.Rows.{made_at}
 use Rattle.vortex_scalar.proofs.scalar.Scalar.extension.Goals as goal
 
