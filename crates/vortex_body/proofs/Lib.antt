@@ -2,7 +2,9 @@ pub mod Bodies
 pub mod Buffers
 pub mod Found
 pub mod KnownNode
+pub mod Leading
 pub mod Making
 pub mod Named
+pub mod Runs
 pub mod Standing
 pub mod Walking

@@ -10,6 +10,7 @@ use Rattle.vortex_body.specs.declared.error.BodyError.TheVariants.{Malformed, Ou
 use Rattle.vortex_body.specs.Body.{named_buffers}
 use Rattle.vortex_body.specs.Node.{Node, Nodes, child, node, nodes_from, most_levels, most_nodes}
 use Rattle.vortex_body.specs.Reading.{Found, Reader, Own, left_of, after_node, own_at, child_at, children_at, one_node_at, node_at, bounded_node_at}
+use Rattle.vortex_body.specs.inner.Runs.{BodyView}
 use Rattle.vortex_body.specs.inner.Walked.{targets_at, made_at}
 use Rattle.vortex_body.specs.declared.schema.TheConstants.{NODE_ENCODING, NODE_METADATA, NODE_CHILDREN, NODE_BUFFERS}
 use Rattle.vortex_body.proofs.Standing.{one_level}
@@ -137,9 +138,13 @@ not_walked b c buffers others p same_buffer same_buffers e =
     by None e = refl
     by (Some f) e = absurd cc
 
-pub whole_made : (b : List ℕ) (buffers others : List (List ℕ)) (p : ℕ) (f : Found Node) → buffers ≡ others → node_at b buffers most_levels most_nodes p ≡ Some f → bounded_node_at b others p ≡ Some f.found
+pub whole_made : (b : List ℕ) (buffers : List (List ℕ)) (p : ℕ) (v : BodyView) (f : Found Node) → ◌≡◌ {A = Option BodyView} (Some (record { flat = b; buffers = buffers })) (Some v) → node_at v.flat v.buffers most_levels most_nodes p ≡ Some f → bounded_node_at b buffers p ≡ Some f.found
 unfolding bounded_node_at
-whole_made b buffers others p f same e = (λ i. option_map (λ (f : Found Node). f.found) (node_at b (sym same i) most_levels most_nodes p)) ∙ ap (option_map (λ (f : Found Node). f.found)) e
+whole_made b buffers p v f same e =
+    ap (λ (w : BodyView). option_map (λ (f : Found Node). f.found) (node_at w.flat w.buffers most_levels most_nodes p)) (by same) ∙ ap (option_map (λ (f : Found Node). f.found)) e
+  where
+    by : ◌≡◌ {A = Option BodyView} (Some (record { flat = b; buffers = buffers })) (Some v) → ◌≡◌ {A = BodyView} (record { flat = b; buffers = buffers }) v
+    by same = cc
 
 pub whole_refused : (b : List ℕ) (buffers others : List (List ℕ)) (p : ℕ) (e : BodyError) → buffers ≡ others → Refuses e (node_at b buffers most_levels most_nodes p) → Refuses e (bounded_node_at b others p)
 unfolding bounded_node_at

@@ -1,13 +1,11 @@
 -- How a walk goes on.
-use Rattle.std.proofs.Common.{◌≡◌, ℕ, zero, suc, ◌+◌, ◌-◌, ◌<◌, ◌≤◌, List, [], ◌∷◌, length, Option, Some, None, refl, sym, ap, ◌∙◌, arith}
-use Rattle.std.specs.Prelude.{option_and_then, slice_get}
+use Rattle.std.proofs.Common.{◌≡◌, ℕ, zero, suc, ◌+◌, ◌-◌, ◌<◌, ◌≤◌, List, [], ◌∷◌, length, Option, Some, None, refl, ap, ◌∙◌, arith}
+use Rattle.std.specs.Prelude.{option_and_then}
 use Rattle.std.specs.Option.{option_map}
-use Rattle.std.proofs.lemmas.Option.{slice_get-get_or}
 use Rattle.vortex_prelude.specs.Absent.{or_zero, or_else}
 use Rattle.vortex_prelude.specs.Elements.{elements}
-use Rattle.vortex_flat.specs.Numbers.{number}
-use Rattle.vortex_flat.specs.Targets.{VectorShape, element, number_field, bytes_field, vector_field, or_empty}
-use Rattle.vortex_body.specs.Body.{named_buffer, named_buffers}
+use Rattle.vortex_flat.specs.Targets.{VectorShape, number_field, bytes_field, vector_field, or_empty}
+use Rattle.vortex_body.specs.Body.{named_buffers}
 use Rattle.vortex_body.specs.Node.{Node, Nodes, child, node}
 use Rattle.vortex_body.specs.Reading.{Found, Reader, Own, left_of, after_node, own_at, child_at, children_at, one_node_at, node_at}
 use Rattle.vortex_body.specs.inner.Walked.{targets_at, walked_at}
@@ -28,24 +26,6 @@ elements_fail f i n lt e =
 
 pub elements_end : {A : Type 0} (f : ℕ → Option A) (i n : ℕ) → n ≤ i → elements f i (n - i) ≡ Some []
 elements_end f i n le = ap (elements f i) (let none : n - i ≡ 0 = omega arith in none)
-
--- ---- places of buffers
-
--- how many there are with i others
-abbrev pub counted : {A : Type 0} → ℕ → Option (List A) → Option ℕ
-counted i o = option_map (λ xs. i + length xs) o
-
-counted_more : {A : Type 0} (i : ℕ) (x : A) (o : Option (List A)) → counted i (option_map (λ xs. x ∷ xs) o) ≡ counted (i + 1) o
-counted_more i x None = refl
-counted_more i x (Some xs) = ap Some (omega arith)
-
-named_some : (b : List ℕ) (buffers : List (List ℕ)) (v : VectorShape) (i k : ℕ) → Some k ≡ number b (element v i) 4 → k < length buffers → (x : List ℕ) × (named_buffer b buffers v i ≡ Some x)
-named_some b buffers v i k e lt = (_, ap (option_and_then (slice_get buffers)) (sym e) ∙ slice_get-get_or buffers k [] lt)
-
-pub place_within : (b : List ℕ) (buffers : List (List ℕ)) (v : VectorShape) (i n k : ℕ) (total : Option ℕ) → i < n → Some k ≡ number b (element v i) 4 → k < length buffers → counted i (elements (named_buffer b buffers v) i (n - i)) ≡ total → counted (i + 1) (elements (named_buffer b buffers v) (i + 1) (n - (i + 1))) ≡ total
-place_within b buffers v i n k total lt e within h =
-    let named = named_some b buffers v i k e within in
-    sym (counted_more i named.0 (elements (named_buffer b buffers v) (i + 1) (n - (i + 1)))) ∙ sym (ap (counted i) (elements_more (named_buffer b buffers v) i n named.0 lt named.1)) ∙ h
 
 -- ---- a node without what it has beside its children
 

@@ -1,6 +1,6 @@
 //! A body, taken apart.
 
-ghost use Rattle.std.specs.Prelude.{◌≡◌};
+ghost use Rattle.std.specs.Prelude.{◌≡◌, ◌<◌, ◌^◌, IfOk, length};
 ghost use Rattle.vortex_body.specs.Answers.{Answers};
 ghost use Rattle.vortex_body.specs.Body.{body_parts, buffers_of, descriptor_of, descriptors_in};
 ghost use Rattle.vortex_body.specs.Reading.{bounded_node_at, node_in, node_of};
@@ -8,12 +8,12 @@ ghost use Rattle.vortex_body.specs.inner.Walked.{buffers_from, next_buffer, part
 
 use crate::error::BodyError;
 use crate::parts::NodeParts;
+use crate::places::Places;
 use crate::schema::*;
 use crate::tree::make;
 use crate::walk::walk;
 use bytes::Bytes;
 use std::alloc::Global;
-use std::rc::Rc;
 use vortex_buffer::ByteBuffer;
 use vortex_flat::{Table, Vector, root, u32_at};
 
@@ -38,7 +38,8 @@ impl NodeParts {
 /// The region of the buffers, and the flat buffer.
 #[tactic(auto, unfolding(crate::specs::Body::body_parts))]
 fn parts_of(body: &Bytes) -> Result<(Bytes, Bytes), BodyError>
-    ensures { Answers parts_pair result (body_parts body.now) }
+    ensures parts { Answers parts_pair result (body_parts body.now) }
+    ensures short { IfOk result (λ parts. length parts.1 < 2 ^ 32) }
 {
     if body.len() < 4 {
         return Err(BodyError::Malformed);
@@ -59,6 +60,7 @@ fn parts_of(body: &Bytes) -> Result<(Bytes, Bytes), BodyError>
 /// The node of the parts of a body.
 #[tactic(auto, unfolding(crate::specs::Reading::node_in))]
 fn node_in(alloc: Global, region: Bytes, flat: Bytes) -> Result<NodeParts, BodyError>
+    requires { length flat < 2 ^ 32 }
     ensures { Answers (λ n. n) result (node_in (record { region = region; flat = flat })) }
 {
     let Ok(root) = root(flat.as_slice()) else {
@@ -79,14 +81,15 @@ fn tree_of(
     buffers: Vec<Bytes>,
     node: &Table<'_>,
 ) -> Result<NodeParts, BodyError>
-    requires { node.now.buffer ≡ flat.now }
+    requires same { node.now.buffer ≡ flat.now }
+    requires short { length flat.now < 2 ^ 32 }
     ensures { Answers (λ n. n) result (bounded_node_at flat.now buffers.items node.now.place) }
 {
-    let Ok(_) = walk(node, &buffers, MOST_LEVELS, MOST_NODES) else {
+    let body = Places::new(alloc, flat, buffers)?;
+    let Ok(_) = walk(node, &body, MOST_LEVELS, MOST_NODES) else {
         return Err(BodyError::Malformed);
     };
-    let buffers = Rc::new(alloc, buffers)?;
-    let (node, _) = make(alloc, flat, &buffers, node, MOST_LEVELS, MOST_NODES)?;
+    let (node, _) = make(alloc, &body, node, MOST_LEVELS, MOST_NODES)?;
     Ok(node)
 }
 

@@ -3,9 +3,11 @@
 
 mod body;
 mod error;
+mod first;
 mod known;
 mod laws;
 mod parts;
+mod places;
 pub mod schema;
 mod tables;
 mod tree;

@@ -166,6 +166,63 @@ fn limits(rt: HostRuntime) {
     assert_eq!(rt; is_body(alloc, 12, 2), true);
 }
 
+/// Nodes of so many levels, each but the last of which has the next one as both children. All of
+/// them share a vector of so many places of the one buffer, and behind these `last`.
+fn doubled(alloc: Global, levels: u32, count: u32, last: u32) -> Result<Vec<u8>, AllocError>
+    requires some { 0 < levels }
+    requires few { levels ≤ 200 }
+    requires places { count ≤ 1000 }
+{
+    let mut bytes = Vec::new(alloc);
+    // The root is at 36, its descriptor at 52 and the first node at 60; their vtables are at 4 and
+    // 12, and that of the last node at 24.
+    put(
+        &mut bytes,
+        &[
+            36,
+            0x000C_0008,
+            0x0008_0004,
+            0x000C_000C,
+            0,
+            0x0008_0004,
+            0x0008_000C,
+            0,
+            0x0004_0000,
+        ],
+    )?;
+    put(&mut bytes, &[32, 20, 4, 1, 0, 0])?;
+    let places = 24 * levels + 44;
+    for k in 1..levels {
+        put(&mut bytes, &[24 * k + 24, 8, places - 24 * k - 44, 2, 8, 4])?;
+    }
+    put(&mut bytes, &[24 * levels + 12, 4, count + 1])?;
+    for _ in 0..count {
+        put(&mut bytes, &[0])?;
+    }
+    put(&mut bytes, &[last, places + 8 + 4 * count])?;
+    Ok(bytes)
+}
+
+/// Whether these nodes are a body.
+fn is_doubled(alloc: Global, levels: u32, count: u32, last: u32) -> bool
+    requires some { 0 < levels }
+    requires few { levels ≤ 200 }
+    requires places { count ≤ 1000 }
+{
+    match doubled(alloc, levels, count, last) {
+        Ok(bytes) => read(alloc, &bytes).is_some(),
+        Err(_) => false,
+    }
+}
+
+#[test]
+fn shared_places(rt: HostRuntime) {
+    let alloc = rt.alloc();
+    // 4,095 nodes, and 400 places for each
+    assert_eq!(rt; is_doubled(alloc, 12, 399, 0), true);
+    assert_eq!(rt; is_doubled(alloc, 12, 399, 1), false);
+}
+
 #[test]
 fn laws(rt: HostRuntime) {
     schema::body_schema();

@@ -7,11 +7,10 @@ ghost use Rattle.vortex_body.specs.inner.Walked.{children_pair, found_pair, made
 
 use crate::error::BodyError;
 use crate::parts::NodeParts;
+use crate::places::Places;
 use crate::tables::targets;
 use crate::walk::after_node;
-use bytes::Bytes;
 use std::alloc::Global;
-use std::rc::Rc;
 use vortex_flat::{Table, Vector};
 
 /// The node of this table, of so many levels at most, and how many nodes may still be met.
@@ -19,20 +18,19 @@ use vortex_flat::{Table, Vector};
 #[tactic(auto, using(crate::proofs::Walking::no_level, crate::proofs::Making::one_made))]
 pub(crate) fn make(
     alloc: Global,
-    flat: &Bytes,
-    buffers: &Rc<Vec<Bytes>>,
+    body: &Places,
     node: &Table<'_>,
     levels: usize,
     left: usize,
 ) -> Result<(NodeParts, usize), BodyError>
-    requires { node.now.buffer ≡ flat.now }
+    requires { node.now.buffer ≡ body.now.flat }
     ensures { Answers found_pair result
-        (node_at flat.now buffers.now.value.items levels left node.now.place) }
+        (node_at body.now.flat body.now.buffers levels left node.now.place) }
 {
     if levels == 0 {
         return Err(BodyError::Malformed);
     }
-    make_node(alloc, flat, buffers, node, levels - 1, left)
+    make_node(alloc, body, node, levels - 1, left)
 }
 
 /// The node of this table, whose children are of so many levels at most.
@@ -40,28 +38,27 @@ pub(crate) fn make(
 #[tactic(auto, unfolding(crate::specs::inner::Walked::made_at))]
 fn make_node(
     alloc: Global,
-    flat: &Bytes,
-    buffers: &Rc<Vec<Bytes>>,
+    body: &Places,
     node: &Table<'_>,
     levels: usize,
     left: usize,
 ) -> Result<(NodeParts, usize), BodyError>
-    requires { node.now.buffer ≡ flat.now }
+    requires { node.now.buffer ≡ body.now.flat }
     ensures { Answers found_pair result
-        (made_at flat.now buffers.now.value.items
-        (node_at flat.now buffers.now.value.items levels) left node.now.place) }
+        (made_at body.now.flat body.now.buffers
+        (node_at body.now.flat body.now.buffers levels) left node.now.place) }
 {
     let Ok(left) = after_node(left) else {
         return Err(BodyError::Malformed);
     };
-    let Ok(targets) = targets(node, buffers) else {
+    let Ok(targets) = targets(node, body) else {
         return Err(BodyError::Malformed);
     };
-    let (children, left) = make_children(alloc, flat, buffers, &targets, levels, left)?;
+    let (children, left) = make_children(alloc, body, &targets, levels, left)?;
     let parts = NodeParts {
-        flat: flat.clone()?,
+        flat: body.flat.clone()?,
         place: node.place(),
-        buffers: buffers.clone()?,
+        buffers: body.buffers.clone()?,
         children,
     };
     Ok((parts, left))
@@ -70,22 +67,21 @@ fn make_node(
 #[cycle(tree)]
 fn make_children(
     alloc: Global,
-    flat: &Bytes,
-    buffers: &Rc<Vec<Bytes>>,
+    body: &Places,
     targets: &Vector<'_>,
     levels: usize,
     left: usize,
 ) -> Result<(Vec<NodeParts>, usize), BodyError>
-    requires buffer { targets.now.buffer ≡ flat.now }
+    requires buffer { targets.now.buffer ≡ body.now.flat }
     requires width { targets.now.shape.width ≡ 4 }
     ensures { Answers children_pair result
-        (children_at flat.now (node_at flat.now buffers.now.value.items levels)
+        (children_at body.now.flat (node_at body.now.flat body.now.buffers levels)
         targets.now.shape targets.now.shape.count 0 left) }
 {
     let mut children = Vec::with_capacity(alloc, targets.len())?;
     let mut left = left;
     for i in 0..targets.len() {
-        let (child, rest) = make_child(alloc, flat, buffers, targets, i, levels, left)?;
+        let (child, rest) = make_child(alloc, body, targets, i, levels, left)?;
         children.push(child)?;
         left = rest;
     }
@@ -96,22 +92,21 @@ fn make_children(
 #[tactic(auto, unfolding(crate::specs::Reading::child_at))]
 fn make_child(
     alloc: Global,
-    flat: &Bytes,
-    buffers: &Rc<Vec<Bytes>>,
+    body: &Places,
     targets: &Vector<'_>,
     i: usize,
     levels: usize,
     left: usize,
 ) -> Result<(NodeParts, usize), BodyError>
-    requires buffer { targets.now.buffer ≡ flat.now }
+    requires buffer { targets.now.buffer ≡ body.now.flat }
     requires width { targets.now.shape.width ≡ 4 }
     requires index { i < targets.now.shape.count }
     ensures { Answers found_pair result
-        (child_at flat.now (node_at flat.now buffers.now.value.items levels)
+        (child_at body.now.flat (node_at body.now.flat body.now.buffers levels)
         targets.now.shape i left) }
 {
     let Ok(node) = targets.table(i) else {
         return Err(BodyError::Malformed);
     };
-    make(alloc, flat, buffers, &node, levels, left)
+    make(alloc, body, &node, levels, left)
 }

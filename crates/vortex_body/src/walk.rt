@@ -5,8 +5,8 @@ ghost use Rattle.vortex_flat.specs.Answers.{Answers};
 ghost use Rattle.vortex_body.specs.Reading.{after_node, child_at, children_at, left_of, node_at};
 ghost use Rattle.vortex_body.specs.inner.Walked.{walked_at};
 
+use crate::places::Places;
 use crate::tables::targets;
-use bytes::Bytes;
 use vortex_flat::{FlatError, Table, Vector};
 
 /// What is left after one more node.
@@ -24,17 +24,18 @@ pub(crate) fn after_node(left: usize) -> Result<usize, FlatError>
 #[tactic(auto, using(crate::proofs::Walking::no_level, crate::proofs::Walking::one_walked))]
 pub(crate) fn walk(
     node: &Table<'_>,
-    buffers: &[Bytes],
+    body: &Places,
     levels: usize,
     left: usize,
 ) -> Result<usize, FlatError>
+    requires { node.now.buffer ≡ body.now.flat }
     ensures { Answers (λ x. x) result
-        (left_of (node_at node.now.buffer buffers.now levels left node.now.place)) }
+        (left_of (node_at node.now.buffer body.now.buffers levels left node.now.place)) }
 {
     if levels == 0 {
         return Err(FlatError::Outside);
     }
-    walk_node(node, buffers, levels - 1, left)
+    walk_node(node, body, levels - 1, left)
 }
 
 /// How many nodes may still be met after this one, whose children are of so many levels at most.
@@ -42,34 +43,37 @@ pub(crate) fn walk(
 #[tactic(auto, unfolding(crate::specs::inner::Walked::walked_at))]
 fn walk_node(
     node: &Table<'_>,
-    buffers: &[Bytes],
+    body: &Places,
     levels: usize,
     left: usize,
 ) -> Result<usize, FlatError>
+    requires { node.now.buffer ≡ body.now.flat }
     ensures { Answers (λ x. x) result
-        (walked_at node.now.buffer buffers.now (node_at node.now.buffer buffers.now levels)
-        left node.now.place) }
+        (walked_at node.now.buffer body.now.buffers
+        (node_at node.now.buffer body.now.buffers levels) left node.now.place) }
 {
     let left = after_node(left)?;
-    let targets = targets(node, buffers)?;
-    walk_children(&targets, buffers, levels, left)
+    let targets = targets(node, body)?;
+    walk_children(&targets, body, levels, left)
 }
 
 #[cycle(walk)]
 fn walk_children(
     targets: &Vector<'_>,
-    buffers: &[Bytes],
+    body: &Places,
     levels: usize,
     left: usize,
 ) -> Result<usize, FlatError>
-    requires { targets.now.shape.width ≡ 4 }
+    requires buffer { targets.now.buffer ≡ body.now.flat }
+    requires width { targets.now.shape.width ≡ 4 }
     ensures { Answers (λ x. x) result
-        (left_of (children_at targets.now.buffer (node_at targets.now.buffer buffers.now levels)
+        (left_of (children_at targets.now.buffer
+        (node_at targets.now.buffer body.now.buffers levels)
         targets.now.shape targets.now.shape.count 0 left)) }
 {
     let mut left = left;
     for i in 0..targets.len() {
-        left = walk_child(targets, i, buffers, levels, left)?;
+        left = walk_child(targets, i, body, levels, left)?;
     }
     Ok(left)
 }
@@ -79,15 +83,16 @@ fn walk_children(
 fn walk_child(
     targets: &Vector<'_>,
     i: usize,
-    buffers: &[Bytes],
+    body: &Places,
     levels: usize,
     left: usize,
 ) -> Result<usize, FlatError>
+    requires buffer { targets.now.buffer ≡ body.now.flat }
     requires width { targets.now.shape.width ≡ 4 }
     requires index { i < targets.now.shape.count }
     ensures { Answers (λ x. x) result
-        (left_of (child_at targets.now.buffer (node_at targets.now.buffer buffers.now levels)
+        (left_of (child_at targets.now.buffer (node_at targets.now.buffer body.now.buffers levels)
         targets.now.shape i left)) }
 {
-    walk(&targets.table(i)?, buffers, levels, left)
+    walk(&targets.table(i)?, body, levels, left)
 }

@@ -1,7 +1,9 @@
-use Rattle.std.proofs.Common.{arith}
-use Rattle.vortex_body.proofs.Walking.{place_within}
+use Rattle.std.proofs.Common.{ap, sym, ◌∙◌}
+use Rattle.std.specs.Prelude.{Some}
+use Rattle.vortex_body.proofs.Runs.{all_named}
 use Rattle.vortex_body.proofs.tables.named_count.Goals as goal
 
-pub loop-i-preserved : goal.loop-i-preserved
-loop-i-preserved c =
-    place_within c.args.places.now.buffer c.args.buffers.now c.args.places.now.shape c.loop-i.i c.args.places.now.shape.count c.u32.result _ (omega arith) c.u32.ensures (omega arith) c.loop-i.invariant
+pub returns : goal.returns
+returns c =
+    all_named c.args.node.now.buffer c.args.body.now.flat c.args.body.now.buffers c.args.places.now.shape c.first_of-first.result c.len.result c.names_all.result c.requires.body c.first_of-first.ensures c.len.ensures c.requires.width c.names_all.ensures c.if-not-names_all.false
+    ∙ ap Some (c.len.ensures ∙ sym c.len-2.ensures)

@@ -18,5 +18,5 @@ decreases-make_child l = 4 * l.levels + 1
 -- the children so far, and those that are left, are all
 abbrev pub invariant-make_children-loop-i : goal.invariant-make_children-loop-i
 invariant-make_children-loop-i l =
-    behind l.children.items (children_at l.flat (node_at l.flat l.buffers.value.items l.levels) l.targets.shape (l.targets.shape.count - l.i) l.i l.left)
-    ≡ children_at l.flat (node_at l.flat l.buffers.value.items l.levels) l.targets.shape l.targets.shape.count 0 l.initial.left
+    behind l.children.items (children_at l.body.flat (node_at l.body.flat l.body.buffers l.levels) l.targets.shape (l.targets.shape.count - l.i) l.i l.left)
+    ≡ children_at l.body.flat (node_at l.body.flat l.body.buffers l.levels) l.targets.shape l.targets.shape.count 0 l.initial.left

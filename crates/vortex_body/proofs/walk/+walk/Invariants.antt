@@ -17,5 +17,5 @@ decreases-walk_child l = 4 * l.levels + 1
 -- what is left of the budget leaves what the whole left
 abbrev pub invariant-walk_children-loop-i : goal.invariant-walk_children-loop-i
 invariant-walk_children-loop-i l =
-    left_of (children_at l.targets.buffer (node_at l.targets.buffer l.buffers l.levels) l.targets.shape (l.targets.shape.count - l.i) l.i l.left)
-    ≡ left_of (children_at l.targets.buffer (node_at l.targets.buffer l.buffers l.levels) l.targets.shape l.targets.shape.count 0 l.initial.left)
+    left_of (children_at l.targets.buffer (node_at l.targets.buffer l.body.buffers l.levels) l.targets.shape (l.targets.shape.count - l.i) l.i l.left)
+    ≡ left_of (children_at l.targets.buffer (node_at l.targets.buffer l.body.buffers l.levels) l.targets.shape l.targets.shape.count 0 l.initial.left)
