@@ -1,0 +1,5 @@
+//! Tests of arrays from bodies.
+#![tactic(auto)]
+
+#[cfg(test)]
+mod tests;

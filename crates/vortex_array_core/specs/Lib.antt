@@ -1,0 +1,6 @@
+pub mod ArrayNode
+pub mod Column
+pub mod Content
+pub mod Falls
+pub mod Decoded
+pub mod Answers

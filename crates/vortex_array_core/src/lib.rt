@@ -1,0 +1,15 @@
+//! Arrays: rows of a type, and how they are held.
+#![tactic(auto)]
+
+mod array;
+mod context;
+mod decode;
+mod decode_nested;
+mod error;
+mod held;
+mod parts;
+
+pub use context::ArrayContext;
+pub use error::ArrayError;
+pub use held::Array;
+pub use parts::ArrayParts;

@@ -1,0 +1,14 @@
+use Rattle.std.proofs.Common.{◌≡◌, drop, map}
+use Rattle.std.specs.Prelude.{◌&&◌}
+use Rattle.std.specs.Int.{w32}
+use Rattle.vortex_number.specs.Format.{number_of_le_bytes}
+use Rattle.vortex_terms.specs.FromColumns.{last_from}
+use Rattle.vortex_node_rows.specs.Buffers.{rises_from}
+use Rattle.vortex_leaves.proofs.offsets.rise_within.Given as goal
+
+-- what is so of the offsets so far and of the rest is so of all
+abbrev pub invariant-loop-offset : goal.invariant-loop-offset
+invariant-loop-offset l = record {
+  rise : l.ok && rises_from l.last (map (number_of_le_bytes w32) (drop l.offset-index l.offsets)) ≡ rises_from 0 (map (number_of_le_bytes w32) l.offsets);
+  last : last_from l.last (map (number_of_le_bytes w32) (drop l.offset-index l.offsets)) ≡ last_from 0 (map (number_of_le_bytes w32) l.offsets);
+}

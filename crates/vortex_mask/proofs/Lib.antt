@@ -1,0 +1,12 @@
+pub mod Numbers
+pub mod Places
+pub mod Held
+pub mod Eights
+pub mod Counts
+pub mod Arms
+pub mod Packs
+pub mod Pushes
+pub mod Filters
+pub mod Ands
+pub mod Unpacks
+pub mod Rests

@@ -1,0 +1,11 @@
+pub mod Options
+pub mod Masks
+pub mod Truths
+pub mod Numbers
+pub mod Texts
+pub mod Lists
+pub mod Structs
+pub mod Constants
+pub mod RowsCounted
+pub mod RowsFit
+pub mod Bodies
