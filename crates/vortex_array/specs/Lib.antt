@@ -1,1 +1,6 @@
-pub mod Encodings
+pub mod ArrayNode
+pub mod Column
+pub mod Content
+pub mod Falls
+pub mod Decoded
+pub mod Answers

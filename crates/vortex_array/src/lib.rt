@@ -1,10 +1,15 @@
-//! Arrays. So far: which encodings there are, and which a reader takes.
+//! Arrays: rows of a type, and how they are held.
 #![tactic(auto)]
 
-mod registry;
-pub mod schema;
+mod array;
+mod context;
+mod decode;
+mod decode_nested;
+mod error;
+mod held;
+mod parts;
 
-pub use registry::ArrayRegistry;
-
-#[cfg(test)]
-mod tests;
+pub use context::ArrayContext;
+pub use error::ArrayError;
+pub use held::Array;
+pub use parts::ArrayParts;

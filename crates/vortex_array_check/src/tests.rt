@@ -2,7 +2,7 @@
 
 use hex::decode;
 use std::alloc::Global;
-use vortex_array_core::{Array, ArrayContext, ArrayError, ArrayParts};
+use vortex_array::{Array, ArrayContext, ArrayError, ArrayParts};
 use vortex_buffer::ByteBuffer;
 use vortex_types::DType;
 

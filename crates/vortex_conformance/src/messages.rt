@@ -5,7 +5,7 @@ ghost use Rattle.std.specs.Prelude.{◌<◌, length};
 use crate::answers::Refusal;
 use crate::words::{buffer_of, word_of};
 use std::alloc::{AllocError, Global};
-use vortex_array::ArrayRegistry;
+use vortex_encodings::ArrayRegistry;
 use vortex_ipc::{BytesQueue, DecoderMessage, IpcError, MessageDecoder, PollRead};
 
 /// A decoder, the bytes that it is still to be given, and what it answered so far.

@@ -8,8 +8,8 @@ use crate::message::{DecoderMessage, PollRead};
 use crate::queue::BytesQueue;
 use std::alloc::Global;
 use std::marker::Model;
-use vortex_array::ArrayRegistry;
 use vortex_buffer::ByteBuffer;
+use vortex_encodings::ArrayRegistry;
 use vortex_stream::IpcError;
 
 /// A reader of the messages that stand in a buffer. Contracts see the bytes that are left, and

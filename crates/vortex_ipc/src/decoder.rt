@@ -16,9 +16,9 @@ use crate::queue::BytesQueue;
 use std::alloc::Global;
 use std::marker::Model;
 use std::mem;
-use vortex_array::ArrayRegistry;
 use vortex_buffer::{Alignment, ByteBuffer};
 use vortex_dtype::{DType, DTypeView};
+use vortex_encodings::ArrayRegistry;
 use vortex_flat::u32_at;
 use vortex_stream::{IpcError, MessageKind};
 

@@ -12,7 +12,7 @@ use crate::message::{DecoderMessage, PollRead};
 use crate::queue::BytesQueue;
 use std::alloc::Global;
 use std::marker::Model;
-use vortex_array::ArrayRegistry;
+use vortex_encodings::ArrayRegistry;
 use vortex_stream::{IpcError, MessageKind, Source, SourceFailed};
 
 /// How many bytes a read asks for at most.

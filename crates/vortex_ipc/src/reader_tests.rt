@@ -4,8 +4,8 @@ use crate::tests::{BUFFER, Read, short};
 use crate::*;
 use std::alloc::Global;
 use std::test::Fail;
-use vortex_array::ArrayRegistry;
 use vortex_buffer::ByteBuffer;
+use vortex_encodings::ArrayRegistry;
 
 fn short_answer(answer: Option<Result<DecoderMessage, IpcError>>) -> Option<Read> {
     match answer {

@@ -6,7 +6,7 @@ ghost use Rattle.vortex_ipc.specs.Reader.{SourceReads};
 use crate::message::DecoderMessage;
 use crate::read_state::ReadState;
 use std::alloc::Global;
-use vortex_array::ArrayRegistry;
+use vortex_encodings::ArrayRegistry;
 use vortex_stream::{IpcError, MessageKind, Source};
 
 /// A reader of the messages of a source: the state of a reader beside its source.

@@ -3,7 +3,7 @@
 use crate::*;
 use std::alloc::Global;
 use std::test::Fail;
-use vortex_array::ArrayRegistry;
+use vortex_encodings::ArrayRegistry;
 
 /// The message of the buffer [1, 2, 3] of alignment 0.
 pub(crate) const BUFFER: [u8; 71] = [

@@ -1,7 +1,7 @@
 use std::alloc::Global;
 use std::test::Fail;
-use vortex_array::ArrayRegistry;
 use vortex_buffer::ByteBuffer;
+use vortex_encodings::ArrayRegistry;
 use vortex_ipc::{
     BufMessageReader, BytesQueue, DecoderMessage, EncoderMessage, IpcError, MessageDecoder,
     MessageEncoder, PollRead, SyncMessageReader, VecSource,

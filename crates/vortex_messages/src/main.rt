@@ -7,7 +7,7 @@ use std::alloc::Global;
 use std::io;
 use std::io::{BufWriter, Write};
 use std::process::ExitCode;
-use vortex_array::ArrayRegistry;
+use vortex_encodings::ArrayRegistry;
 use vortex_ipc::{DecoderMessage, IpcError, ReadSource, Source, SyncMessageReader};
 
 /// A list that cannot be written.

@@ -1,7 +1,7 @@
 -- Which encoding a name is: `encoding_name`, `encoding_named`, `encoding_in`.
 use Rattle.std.specs.Prelude.{ℕ, List, [], ◌∷◌, Option, Some, None, bytes_eq, slice_get, if◌then◌else◌}
 use Rattle.vortex_prelude.specs.Chain.{◌>>=◌}
-use Rattle.vortex_array.specs.declared.schema.TheConstants as names
+use Rattle.vortex_encodings.specs.declared.schema.TheConstants as names
 use Rattle.vortex_node_rows.specs.declared.encoding.Encoding.{Encoding}
 use Rattle.vortex_node_rows.specs.declared.encoding.Encoding.TheVariants as encoding
 

@@ -3,7 +3,7 @@
 ghost use Rattle.std.specs.Prelude.{◌≡◌};
 ghost use Rattle.vortex_node_rows.specs.Encodings.{encoding_name, encoding_named};
 
-use vortex_array::schema;
+use vortex_encodings::schema;
 
 /// How rows are laid out in a node.
 #[derive(Clone, Copy, Debug, PartialEq, Eq)]

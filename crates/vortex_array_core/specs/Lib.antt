@@ -1,6 +1,0 @@
-pub mod ArrayNode
-pub mod Column
-pub mod Content
-pub mod Falls
-pub mod Decoded
-pub mod Answers
