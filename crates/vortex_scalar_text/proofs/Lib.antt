@@ -2,3 +2,4 @@ pub mod Sized
 pub mod SizeOfRow
 pub mod DefaultRows
 pub mod TextLemmas
+pub mod RowTexts

@@ -45,7 +45,7 @@ bytes_same n (decimal_value w z) = refl
 bytes_same n (list_value vs) = refl
 
 -- of lists and structs
-rows_of : (o : Option Rows) (r : Row) → option_map list_row o ≡ Some r → o ≡ Some (inner_rows r)
+pub rows_of : (o : Option Rows) (r : Row) → option_map list_row o ≡ Some r → o ≡ Some (inner_rows r)
 rows_of (Some rs) r e = ap (λ q. Some (inner_rows q)) (same_Some (list_row rs) r e)
 rows_of None r e = absurd (cc)
 

@@ -1,3 +1,4 @@
 pub mod Size
 pub mod ScalarText
+pub mod Widths
 pub mod inner

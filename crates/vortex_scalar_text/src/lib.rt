@@ -8,7 +8,8 @@ mod texts;
 
 pub use defaults::default_value;
 pub use laws::{
-    nested_texts_are_worked, sizes_are_worked, texts_are_worked, value_texts_are_worked,
+    nested_texts_are_worked, sizes_are_worked, texts_are_worked, texts_follow_rows,
+    value_texts_are_worked,
 };
 pub use sizes::byte_size;
 pub use texts::write_scalar;

@@ -13,3 +13,7 @@ returns-clause-fixed c = refl
 pub returns-clause-structs : goal.returns-clause-structs
 unfolding digits
 returns-clause-structs c = refl
+
+pub returns-clause-empty : goal.returns-clause-empty
+unfolding digits
+returns-clause-empty c = (refl, refl, refl)

@@ -30,3 +30,15 @@ returns-clause-long_texts c = refl
 pub returns-clause-lists : goal.returns-clause-lists
 unfolding digits
 returns-clause-lists c = refl
+
+pub returns-clause-ten_bytes : goal.returns-clause-ten_bytes
+unfolding digits
+returns-clause-ten_bytes c = refl
+
+pub returns-clause-ten_characters : goal.returns-clause-ten_characters
+unfolding chars
+returns-clause-ten_characters c = refl
+
+pub returns-clause-wide_characters : goal.returns-clause-wide_characters
+unfolding chars lib.Utf8.encode
+returns-clause-wide_characters c = (refl, refl)
