@@ -11,7 +11,7 @@ use Rattle.vortex_cast.specs.Cast.{cast_of}
 use Rattle.vortex_cast.specs.Answers.{IsCast}
 use Rattle.vortex_cast.proofs.CastFits.{fits}
 use Rattle.vortex_scalar.specs.ScalarTerm.{ScalarTerm}
-use Rattle.vortex_scalar.specs.Made.{scalar_of}
+use Rattle.vortex_scalar.specs.Made.{typed, scalar_of}
 use Rattle.vortex_scalar.specs.Cast.{typed_result, cast_scalar}
 use Rattle.vortex_scalar.proofs.Rows.{is_made, makes}
 
@@ -44,3 +44,15 @@ made_fits s u d v e m = subst (λ t. IsSome (fitting_row t v)) (sym e) (is_made 
 pub made_is : (s : ScalarTerm) (u d : Term) (v : ValueTerm) → d ≡ u → Made s u v → cast_scalar s u ≡ Ok (scalar_of d v)
 made_is s u d v e m =
     ap (typed_result u) m.is ∙ ap (λ (q : ScalarTerm). Ok q) (sym (ap (λ t. scalar_of t v) e ∙ makes u v m.row m.stands m.fits))
+
+-- what a scalar is cast to is of the target, and fits it
+typed_fits : (u : Term) (r : ScalarTerm) (found : Result Row ScalarError) → ((q : Row) → found ≡ Ok q → Fits u q) → typed_result u found ≡ Ok r
+    → (r.dtype ≡ u) × Fits r.dtype r.row
+typed_fits u r (Ok q) h e = subst (λ (z : ScalarTerm). (z.dtype ≡ u) × Fits z.dtype z.row) (same (typed u q) r e) (refl, h q refl)
+  where
+    same : (a b : ScalarTerm) → ◌≡◌ {A = Result ScalarTerm ScalarError} (Ok a) (Ok b) → a ≡ b
+    same a b e = cc
+typed_fits u r (Err x) h e = absurd cc
+
+pub cast_fits : (s r : ScalarTerm) (u : Term) → Fits s.dtype s.row → cast_scalar s u ≡ Ok r → (r.dtype ≡ u) × Fits r.dtype r.row
+cast_fits s r u f e = typed_fits u r (cast_of s.dtype s.row u) (λ q h. fits s.dtype u s.row q f h) e

@@ -24,4 +24,7 @@ pub use views::{
 };
 pub use vortex_scalar_value::{ScalarError, ScalarValue, ValueRef};
 pub use vortex_value_rows::rows_ignore_nullability;
-pub use worked::{arithmetic_is_worked, bounds_of_scalars, scalar_bounds_are_worked};
+pub use worked::{
+    arithmetic_is_worked, bounds_of_scalars, casts_of_scalars_are_worked, casts_of_scalars_fit,
+    recasts_are_worked, scalar_bounds_are_worked, text_bounds_are_worked,
+};

@@ -1,6 +1,6 @@
 //! Sizes, defaults, and numbers with the same bits.
 
-ghost use Rattle.std.specs.Prelude.{◌≡◌, IsTrue, IfOk, IsOkUnless};
+ghost use Rattle.std.specs.Prelude.{◌≡◌, IsTrue, Ok, IfOk, IsOkUnless};
 ghost use Rattle.vortex_terms.specs.Default.{default_row};
 ghost use Rattle.vortex_terms.specs.Row.{whole_row};
 ghost use Rattle.vortex_terms.specs.Term.{primitive};
@@ -43,12 +43,12 @@ impl Scalar {
         Ok(Scalar::new(dtype, value))
     }
 
-    /// The number of another kind of the same width that has the same bits. Null stays null.
+    /// The number of another kind of the same width that has the same bits. Null stays null, and
+    /// nothing is refused.
     pub fn reinterpret_cast(&self, _alloc: Global, ptype: PType) -> Result<Scalar, ScalarError>
         requires kind { IsTrue (is_primitive self.now.dtype) }
         requires width { byte_width_of ptype ≡ byte_width_of (kind_in self.now.dtype) }
-        ensures scalar { IfOk result (λ s. s ≡ reinterpreted ptype self.now) }
-        ensures memory { IsOkUnless result ScalarError.OutOfMemory }
+        ensures { result ≡ Ok (reinterpreted ptype self.now) }
     {
         self.law();
         let nullability = self.dtype().nullability();

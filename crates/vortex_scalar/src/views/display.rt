@@ -55,13 +55,18 @@ impl<'a> fmt::Display for PrimitiveScalar<'a> {
 }
 
 impl<'a> fmt::Display for DecimalScalar<'a> {
-    ghost use Rattle.vortex_scalar.specs.Views.{decimal_term};
+    ghost use Rattle.std.specs.Fmt.{WritesOnOk};
+    ghost use Rattle.vortex_scalar_text.specs.ScalarText.{scalar_text};
+    ghost use Rattle.vortex_scalar.specs.Views.{decimal_term, decimal_kept};
 
     fn fmt<W: fmt::Write>(&self, f: &mut fmt::Formatter<W>) -> fmt::Result
-        ensures { Prints W.write_str_gives f.old result (decimal_term self.now) f.new }
+        ensures prints { Prints W.write_str_gives f.old result (decimal_term self.now) f.new }
+        ensures text { let text = scalar_text (decimal_term self.now).dtype
+            (decimal_kept self.now) in
+            WritesOnOk W.write_str_gives f.old result text f.new }
     {
-        let scalar = self.into_scalar();
-        scalar.fitting().print(f)
+        let value = self.kept();
+        write_scalar(self.dtype().type_ref(), &value, f)
     }
 }
 
