@@ -3,3 +3,5 @@ pub mod Refusals
 pub mod FieldArrays
 pub mod Truths
 pub mod Childless
+pub mod PickLaws
+pub mod PickedContents

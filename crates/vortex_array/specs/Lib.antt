@@ -4,3 +4,4 @@ pub mod Content
 pub mod Falls
 pub mod Decoded
 pub mod Answers
+pub mod inner

@@ -8,6 +8,8 @@ mod decode_nested;
 mod error;
 mod held;
 mod parts;
+mod pick;
+mod select;
 
 pub use context::ArrayContext;
 pub use error::ArrayError;

@@ -26,9 +26,27 @@ fn dtype(alloc: Global, digits: &str) -> Option<DType> {
     DType::from_proto(alloc, &bytes).ok()
 }
 
-fn seen(read: Result<Array, ArrayError>) -> Outcome {
+/// Whether all rows but the first are a slice.
+fn is_cut(alloc: Global, array: &Array) -> bool {
+    let rows = array.len();
+    if rows == 0 {
+        return true;
+    }
+    match array.slice(alloc, 1, rows) {
+        Ok(part) => part.len() == rows - 1,
+        Err(_) => false,
+    }
+}
+
+/// How many rows there are, where the array can be cut too.
+fn seen(alloc: Global, read: Result<Array, ArrayError>) -> Outcome {
     match read {
-        Ok(array) => Outcome::Rows(array.len()),
+        Ok(array) => {
+            if is_cut(alloc, &array) {
+                return Outcome::Rows(array.len());
+            }
+            Outcome::Other
+        }
         Err(ArrayError::Malformed) => Outcome::Malformed,
         Err(_) => Outcome::Other,
     }
@@ -46,8 +64,8 @@ fn read(alloc: Global, ids: &[&str], rows: usize, of: &str, body: &str) -> Outco
         return Outcome::Other;
     };
     match ArrayParts::try_new(alloc, body) {
-        Ok(parts) => seen(parts.decode(alloc, &context, &of, rows)),
-        Err(e) => seen(Err(e)),
+        Ok(parts) => seen(alloc, parts.decode(alloc, &context, &of, rows)),
+        Err(e) => seen(alloc, Err(e)),
     }
 }
 

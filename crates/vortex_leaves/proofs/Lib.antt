@@ -4,3 +4,6 @@ pub mod Rising
 pub mod TextTests
 pub mod Values
 pub mod Ranges
+pub mod KeptRows
+pub mod SelectedNumbers
+pub mod Pieces

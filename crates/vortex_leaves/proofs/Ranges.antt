@@ -13,7 +13,7 @@ use Rattle.vortex_leaves.specs.Texts.{HoldOffsets}
 use Rattle.vortex_leaves.proofs.Rising.{step, held_count}
 
 -- chunks but the first k
-chunks_drop : (w k m n : ℕ) (xs : List ℕ) → n ≡ k + m → drop k (first_chunks w n xs) ≡ first_chunks w m (drop (k * w) xs)
+pub chunks_drop : (w k m n : ℕ) (xs : List ℕ) → n ≡ k + m → drop k (first_chunks w n xs) ≡ first_chunks w m (drop (k * w) xs)
 chunks_drop w zero m n xs e =
     let all : n ≡ m = omega (arith, e) in
     let none : 0 ≡ 0 * w = omega arith in
@@ -24,7 +24,7 @@ chunks_drop w (suc k) m (suc n) xs e =
     chunks_drop w k m n (drop w xs) (omega (arith, e)) ∙ ap (first_chunks w m) (drop-drop (k * w) w xs ∙ ap (λ j. drop j xs) far)
 
 -- the first k chunks lie in the front
-chunks_take : (w k n l : ℕ) (xs : List ℕ) → k ≤ n → k * w ≤ l → take k (first_chunks w n xs) ≡ first_chunks w k (take l xs)
+pub chunks_take : (w k n l : ℕ) (xs : List ℕ) → k ≤ n → k * w ≤ l → take k (first_chunks w n xs) ≡ first_chunks w k (take l xs)
 chunks_take w zero n l xs h f = refl
 chunks_take w (suc k) zero l xs h f = absurd (omega (arith, h))
 chunks_take w (suc k) (suc n) l xs h f =
@@ -47,12 +47,12 @@ rises_less : (a b : ℕ) (os : List ℕ) → b ≤ a → rises_from a os ≡ tru
 rises_less a b [] le h = refl
 rises_less a b (o ∷ os) le h = ap (λ c. c && rises_from o os) (le-leb b o (omega (arith, le, (step a o os h).0))) ∙ (step a o os h).1
 
-rises_take : (k a : ℕ) (os : List ℕ) → rises_from a os ≡ true → rises_from a (take k os) ≡ true
+pub rises_take : (k a : ℕ) (os : List ℕ) → rises_from a os ≡ true → rises_from a (take k os) ≡ true
 rises_take zero a os h = refl
 rises_take (suc k) a [] h = refl
 rises_take (suc k) a (o ∷ os) h = ap (λ c. c && rises_from o (take k os)) (le-leb a o (step a o os h).0) ∙ rises_take k o os (step a o os h).1
 
-rises_drop : (k a : ℕ) (os : List ℕ) → rises_from a os ≡ true → rises_from a (drop k os) ≡ true
+pub rises_drop : (k a : ℕ) (os : List ℕ) → rises_from a os ≡ true → rises_from a (drop k os) ≡ true
 rises_drop zero a os h = h
 rises_drop (suc k) a [] h = refl
 rises_drop (suc k) a (o ∷ os) h = rises_less o a (drop k os) (step a o os h).0 (rises_drop k o os (step a o os h).1)

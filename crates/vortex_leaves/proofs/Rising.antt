@@ -11,7 +11,7 @@ use Rattle.vortex_node_rows.specs.Buffers.{rises_from, never_fall, numbers_32}
 use Rattle.vortex_leaves.specs.Texts.{AreOffsets, TextBytes, AreTexts, text_pieces}
 use Rattle.vortex_leaves.proofs.Chunks.{chunk_count}
 
-length-first_chunks : {A : Type 0} (w n : ℕ) (xs : List A) → length (first_chunks w n xs) ≡ n
+pub length-first_chunks : {A : Type 0} (w n : ℕ) (xs : List A) → length (first_chunks w n xs) ≡ n
 length-first_chunks w zero xs = refl
 length-first_chunks w (suc n) xs = ap suc (length-first_chunks w n (drop w xs))
 
@@ -70,7 +70,7 @@ step a b os h =
     let parts = both (nat_le a b) (rises_from b os) h in
     (is_least a b parts.0, parts.1)
 
-least_last : (a : ℕ) (os : List ℕ) → rises_from a os ≡ true → a ≤ last_from a os
+pub least_last : (a : ℕ) (os : List ℕ) → rises_from a os ≡ true → a ≤ last_from a os
 least_last a [] h = omega arith
 least_last a (b ∷ os) h = omega (arith, (step a b os h).0, least_last b os (step a b os h).1)
 

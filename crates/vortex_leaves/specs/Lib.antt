@@ -2,3 +2,4 @@ pub mod Answers
 pub mod Numbers
 pub mod Texts
 pub mod Constant
+pub mod Selected

@@ -17,7 +17,7 @@ use vortex_wire::DecimalMetadata;
 /// So many decimals, each as its digits. They are held in 8, 16, 32, 64 or 128 bits.
 #[derive(Drop)]
 pub struct Decimals {
-    digits: Numbers,
+    pub(crate) digits: Numbers,
 }
 
 impl Model for Decimals {

@@ -1,4 +1,5 @@
-//! Readers of the buffers of nodes without children. They check what they read, and copy none of it.
+//! Readers of the buffers of nodes without children, which check what they read and copy none of it,
+//! and parts of what was read.
 #![tactic(auto)]
 
 mod buffers;
@@ -9,6 +10,10 @@ mod error;
 mod format;
 mod numbers;
 mod offsets;
+mod offsets_builder;
+mod select_chunks;
+mod select_numbers;
+mod select_texts;
 mod texts;
 
 pub use buffers::{one_buffer, two_buffers};
@@ -18,6 +23,7 @@ pub use error::LeafError;
 pub use format::NumberFormat;
 pub use numbers::Numbers;
 pub use offsets::Offsets;
+pub use offsets_builder::OffsetsBuilder;
 pub use texts::Texts;
 
 #[cfg(test)]

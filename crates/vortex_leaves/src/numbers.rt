@@ -20,9 +20,9 @@ use vortex_number::PType;
 /// So many whole numbers in a format. Their bytes are shared.
 #[derive(Drop)]
 pub struct Numbers {
-    format: NumberFormat,
-    len: usize,
-    bytes: Bytes,
+    pub(crate) format: NumberFormat,
+    pub(crate) len: usize,
+    pub(crate) bytes: Bytes,
 }
 
 impl Model for Numbers {

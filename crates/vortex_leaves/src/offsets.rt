@@ -17,8 +17,8 @@ use std::marker::Model;
 /// So many and one offsets of 4 bytes each, which never fall. Their bytes are shared.
 #[derive(Drop)]
 pub struct Offsets {
-    len: usize,
-    bytes: Bytes,
+    pub(crate) len: usize,
+    pub(crate) bytes: Bytes,
 }
 
 impl Model for Offsets {

@@ -19,8 +19,8 @@ use vortex_mask::Mask;
 /// So many pieces of bytes, between offsets. Their bytes are shared.
 #[derive(Drop)]
 pub struct Texts {
-    offsets: Offsets,
-    bytes: Bytes,
+    pub(crate) offsets: Offsets,
+    pub(crate) bytes: Bytes,
 }
 
 impl Model for Texts {

@@ -1,0 +1,395 @@
+-- What is picked of how rows are held is how the rows that are picked are held.
+use Rattle.std.proofs.Common.{◌≡◌, ◌≤◌, ◌<◌, ◌+◌, ◌-◌, ◌*◌, ℕ, zero, suc, List, [], ◌∷◌, Bool, Some, None, map, length, take, drop, refl, sym, ap, subst, ◌∙◌, arith, mul-le-mul_right, Vec, Global}
+use Rattle.std.specs.declared.rc.Rc.{Rc}
+use Rattle.std.specs.Prelude.{slice_range, if◌then◌else◌}
+use Rattle.std.specs.List.{AllByRecursion}
+use Rattle.std.proofs.lemmas.List.{length-map, length-replicate, length-take-le, length-drop, drop-drop, take-take, drop-take}
+use Rattle.vortex_terms.specs.Term.{Term, null, boolean, primitive, decimal, utf8, binary, structure, list, extension, fixed_size_list, Fields, no_fields, field}
+use Rattle.vortex_terms.specs.Types.{nullable}
+use Rattle.vortex_terms.specs.Row.{Row, null_row, truth_row, bytes_row, list_row, no_rows, row, rows_from, copies}
+use Rattle.vortex_terms.specs.Fits.{Fits}
+use Rattle.vortex_terms.specs.FromColumns.{zip_map, masked, pieces, inside_structs}
+use Rattle.vortex_scalar_value.specs.Value.{ValueTerm}
+use Rattle.vortex_value_rows.specs.RowOf.{row_under}
+use Rattle.vortex_types.specs.DTypes.{term_of}
+use Rattle.vortex_node_rows.specs.Pieces.{chunks}
+use Rattle.vortex_node_rows.specs.RowsOf.{Validity}
+use Rattle.vortex_node_rows.proofs.Constants.{length-copies}
+use Rattle.vortex_node_rows.proofs.Masks.{length-zip_map}
+use Rattle.vortex_node_rows.proofs.Lists.{length-chunks}
+use Rattle.vortex_leaves.specs.Numbers.{NumberBytes, number_rows}
+use Rattle.vortex_leaves.specs.Texts.{TextBytes, text_pieces}
+use Rattle.vortex_leaves.specs.Selected.{AreNumbersOf}
+use Rattle.vortex_leaves.proofs.Rising.{length-first_chunks, length-pieces}
+use Rattle.vortex_leaves.proofs.Pieces.{pieces_range, offsets_range}
+use Rattle.vortex_array.specs.Column.{Column}
+use Rattle.vortex_array.specs.ArrayNode.{array_node_count, ArrayNode, ArrayNodes, no_array_nodes, array_nodes_count, array_nodes_before}
+use Rattle.vortex_array.specs.Content.{column_nodes, content_node, content_rows, column_rows, column_of, AreFields, IsMask, IsShaped, IsArray}
+use Rattle.vortex_array.specs.inner.Picked.{picked, from_on, IsPickedColumn, ArePickedColumns, IsPickedMask, IsPickedContent}
+use Rattle.vortex_array.specs.declared.held.Content.{Content}
+use Rattle.vortex_array.specs.declared.held.Content.TheVariants.{Nulls, Truths, Numbers, Decimals, Texts, Lists, FixedLists, Structs, Storage, Constant}
+use Rattle.vortex_array.specs.declared.held.Array.TheInside.{Inside}
+use Rattle.vortex_array.proofs.PickLaws.{Below, picked-map, picked-zip, picked-replicate, length-picked, all_picked, length-from_on, below_from_on, picked_range}
+
+-- ---- places of a range
+
+abbrev pub span : ℕ → ℕ → List ℕ
+span from to = from_on (to - from) from
+
+pub span_below : (from to n : ℕ) → from ≤ to → to ≤ n → Below n (span from to)
+span_below from to n le hi = below_from_on (to - from) from n (omega (arith, le, hi))
+
+pub span_long : (from to : ℕ) → length (span from to) ≡ to - from
+span_long from to = length-from_on (to - from) from
+
+-- ---- leaves
+
+copies_picked : (n : ℕ) (r : Row) (ps : List ℕ) → Below n ps → copies (length ps) r ≡ picked ps (copies n r)
+unfolding copies
+copies_picked n r ps b = sym (picked-replicate n r ps b)
+
+pub nulls_picked : (t : Term) (ps : List ℕ) (n : ℕ) → Below n ps → IsShaped Nulls t n → IsPickedContent t ps n Nulls Nulls
+nulls_picked null ps n b h = record { shape = tt; rows = copies_picked n null_row ps b }
+nulls_picked _ ps n b h = absurd h
+
+pub truths_picked : (t : Term) (ps : List ℕ) (n : ℕ) (m k : List Bool) → Below n ps → IsShaped (Truths m) t n → k ≡ picked ps m
+    → IsPickedContent t ps n (Truths m) (Truths k)
+truths_picked (boolean nl) ps n m k b h e =
+    record { shape = ap length e ∙ length-picked ps m (subst (λ j. Below j ps) (sym h) b); rows = ap (map truth_row) e ∙ sym (picked-map truth_row ps m) }
+truths_picked _ ps n m k b h e = absurd h
+
+numbers_long : (a : NumberBytes) → length (number_rows a) ≡ a.count
+numbers_long a = length-map _ _ ∙ length-first_chunks _ a.count a.bytes
+
+pub numbers_picked : (t : Term) (n from to : ℕ) (a b : NumberBytes) → from ≤ to → to ≤ n → IsShaped (Numbers a) t n
+    → AreNumbersOf a.format (slice_range (number_rows a) from to) b → IsPickedContent t (span from to) n (Numbers a) (Numbers b)
+numbers_picked (primitive k nl) n from to a b le hi h e =
+    let same : slice_range (number_rows a) from to ≡ picked (span from to) (number_rows a) =
+    sym (picked_range from to (number_rows a) le (omega (arith, numbers_long a, h.1, hi))) in
+    record {
+      shape = (e.format ∙ h.0, e.count ∙ ap length same ∙ length-picked (span from to) (number_rows a) (span_below from to _ le (omega (arith, numbers_long a, h.1, hi))));
+      rows = e.rows ∙ same;
+    }
+numbers_picked _ n from to a b le hi h e = absurd h
+
+pub decimals_picked : (t : Term) (n from to : ℕ) (a b : NumberBytes) → from ≤ to → to ≤ n → IsShaped (Decimals a) t n
+    → AreNumbersOf a.format (slice_range (number_rows a) from to) b → IsPickedContent t (span from to) n (Decimals a) (Decimals b)
+decimals_picked (decimal p s nl) n from to a b le hi h e =
+    let same : slice_range (number_rows a) from to ≡ picked (span from to) (number_rows a) =
+    sym (picked_range from to (number_rows a) le (omega (arith, numbers_long a, h, hi))) in
+    record {
+      shape = e.count ∙ ap length same ∙ length-picked (span from to) (number_rows a) (span_below from to _ le (omega (arith, numbers_long a, h, hi)));
+      rows = e.rows ∙ same;
+    }
+decimals_picked _ n from to a b le hi h e = absurd h
+
+-- how many there are, by the content
+pub numbers_count : (t : Term) (n : ℕ) (a : NumberBytes) → IsShaped (Numbers a) t n → a.count ≡ n
+numbers_count (primitive k nl) n a h = h.1
+numbers_count _ n a h = absurd h
+
+pub decimals_count : (t : Term) (n : ℕ) (a : NumberBytes) → IsShaped (Decimals a) t n → a.count ≡ n
+decimals_count (decimal p s nl) n a h = h
+decimals_count _ n a h = absurd h
+
+pub truths_count : (t : Term) (n : ℕ) (m : List Bool) → IsShaped (Truths m) t n → length m ≡ n
+truths_count (boolean nl) n m h = h
+truths_count _ n m h = absurd h
+
+pub texts_count : (t : Term) (n : ℕ) (a : TextBytes) → IsShaped (Texts a) t n → length (text_pieces a) ≡ n
+texts_count (utf8 nl) n a h = h
+texts_count (binary nl) n a h = h
+texts_count _ n a h = absurd h
+
+pub lists_count : (t : Term) (n : ℕ) (os : List ℕ) (es : Rc Column Global) → IsShaped (Lists os es) t n → length os ≡ suc n
+lists_count (list t nl) n os es h = h.1.count
+lists_count _ n os es h = absurd h
+
+texts_same : (n from to : ℕ) (a b : TextBytes) → from ≤ to → to ≤ n → length (text_pieces a) ≡ n
+    → text_pieces b ≡ slice_range (text_pieces a) from to
+    → (length (text_pieces b) ≡ length (span from to))
+    × (map bytes_row (text_pieces b) ≡ picked (span from to) (map bytes_row (text_pieces a)))
+texts_same n from to a b le hi h e =
+    let same : text_pieces b ≡ picked (span from to) (text_pieces a) = e ∙ sym (picked_range from to (text_pieces a) le (omega (arith, h, hi))) in (
+      ap length same ∙ length-picked (span from to) (text_pieces a) (span_below from to _ le (omega (arith, h, hi))),
+      ap (map bytes_row) same ∙ sym (picked-map bytes_row (span from to) (text_pieces a)),
+    )
+
+pub texts_picked : (t : Term) (n from to : ℕ) (a b : TextBytes) → from ≤ to → to ≤ n → IsShaped (Texts a) t n
+    → text_pieces b ≡ slice_range (text_pieces a) from to → IsPickedContent t (span from to) n (Texts a) (Texts b)
+texts_picked (utf8 nl) n from to a b le hi h e =
+    let p = texts_same n from to a b le hi h e in record { shape = p.0; rows = p.1 }
+texts_picked (binary nl) n from to a b le hi h e =
+    let p = texts_same n from to a b le hi h e in record { shape = p.0; rows = p.1 }
+texts_picked _ n from to a b le hi h e = absurd h
+
+pub constant_picked : (t : Term) (ps : List ℕ) (n : ℕ) (v w : ValueTerm) → Below n ps → IsShaped (Constant v) t n → w ≡ v
+    → IsPickedContent t ps n (Constant v) (Constant w)
+constant_picked t ps n v w b h e =
+    rw e (record { shape = constant_shaped t n (length ps) v h; rows = copies_picked n (row_under t v) ps b })
+  where
+    constant_shaped : (t : Term) (n k : ℕ) (v : ValueTerm) → IsShaped (Constant v) t n → IsShaped (Constant v) t k
+    constant_shaped t n k v h = h
+
+-- ---- lists
+
+pub lists_picked : (t : Term) (n from to : ℕ) (os new : List ℕ) (es : Rc Column Global) (fs : Rc Column Global) → from ≤ to → to ≤ n
+    → IsShaped (Lists os es) t n → new ≡ slice_range os from (suc to) → fs.value ≡ es.value
+    → IsPickedContent t (span from to) n (Lists os es) (Lists new fs)
+lists_picked (list t nl) n from to os new es fs le hi h e same =
+    let g : List Row → Row = λ rs. list_row (rows_from rs) in
+    let room : to < length os = omega (arith, h.1.count, hi) in
+    let range = offsets_range from to (length es.value.rows) os new le room h.1.rise h.1.within e in
+    let cut : pieces new es.value.rows ≡ slice_range (pieces os es.value.rows) from to =
+    ap (λ l. pieces l es.value.rows) e ∙ pieces_range from to os es.value.rows le in
+    let many : length (pieces os es.value.rows) ≡ n = length-pieces n os es.value.rows h.1.count in
+    let all : slice_range (pieces os es.value.rows) from to ≡ picked (span from to) (pieces os es.value.rows) =
+    sym (picked_range from to (pieces os es.value.rows) le (omega (arith, many, hi))) in
+    let long : length new ≡ suc (length (span from to)) = ap length e ∙ length-range os from to le room ∙ ap suc (sym (span_long from to)) in
+    rw same (record {
+      shape = (h.0, record { count = long; rise = range.1; within = range.2 });
+      rows = ap (map g) (cut ∙ all) ∙ sym (picked-map g (span from to) (pieces os es.value.rows));
+    })
+  where
+    length-range : (os : List ℕ) (from to : ℕ) → from ≤ to → to < length os → length (slice_range os from (suc to)) ≡ suc (to - from)
+    length-range os from to le room =
+        length-take-le (suc to - from) (drop from os) (omega (arith, length-drop from os, room, le)) ∙ omega (arith, le)
+lists_picked _ n from to os new es fs le hi h e same = absurd h
+
+chunks_drop : {A : Type 0} (k a m n : ℕ) (xs : List A) → n ≡ a + m → drop a (chunks k n xs) ≡ chunks k m (drop (a * k) xs)
+chunks_drop k zero m n xs e =
+    let all : n ≡ m = omega (arith, e) in
+    let none : 0 ≡ 0 * k = omega arith in
+    ap (λ j. chunks k j xs) all ∙ ap (λ j. chunks k m (drop j xs)) none
+chunks_drop k (suc a) m zero xs e = absurd (omega (arith, e))
+chunks_drop k (suc a) m (suc n) xs e =
+    let far : k + a * k ≡ suc a * k = omega arith in
+    chunks_drop k a m n (drop k xs) (omega (arith, e)) ∙ ap (chunks k m) (drop-drop (a * k) k xs ∙ ap (λ j. drop j xs) far)
+
+chunks_take : {A : Type 0} (k a n : ℕ) (xs : List A) → a ≤ n → take a (chunks k n xs) ≡ chunks k a (take (a * k) xs)
+chunks_take k zero n xs h = refl
+chunks_take k (suc a) zero xs h = absurd (omega (arith, h))
+chunks_take {A = A} k (suc a) (suc n) xs h =
+    let far : k + a * k ≡ suc a * k = omega arith in
+    let first : take k (take (k + a * k) xs) ≡ take k xs = take-take k (k + a * k) xs (omega arith) in
+    let others : chunks k a (drop k (take (k + a * k) xs)) ≡ take a (chunks k n (drop k xs)) =
+    ap (chunks k a) (drop-take k (a * k) xs) ∙ sym (chunks_take k a n (drop k xs) (omega (arith, h))) in
+    sym (ap (λ j. chunks k (suc a) (take j xs)) (sym far) ∙ ap (λ (c : List A). c ∷ chunks k a (drop k (take (k + a * k) xs))) first ∙ ap (λ (l : List (List A)). take k xs ∷ l) others)
+
+mul_over : (a d w : ℕ) → (a + d) * w ≡ a * w + d * w
+mul_over a d w = omega arith
+
+-- the elements of a range of lists of k each
+chunks_range : {A : Type 0} (k n from to : ℕ) (xs : List A) → from ≤ to → to ≤ n
+    → chunks k (to - from) (slice_range xs (from * k) (to * k)) ≡ slice_range (chunks k n xs) from to
+chunks_range k n from to xs le hi =
+    let end : to ≡ from + (to - from) = omega (arith, le) in
+    let size : to * k ≡ from * k + (to - from) * k = ap (λ x. x * k) end ∙ mul_over from (to - from) k in
+    let part : to * k - from * k ≡ (to - from) * k = omega (arith, size) in
+    ap (λ j. chunks k (to - from) (take j (drop (from * k) xs))) part
+    ∙ sym (ap (take (to - from)) (chunks_drop k from (n - from) n xs (omega (arith, le, hi)))
+    ∙ chunks_take k (to - from) (n - from) (drop (from * k) xs) (omega (arith, le, hi)))
+
+pub fixed_room : (t : Term) (n from to k : ℕ) (es : Rc Column Global) → from ≤ to → to ≤ n → IsShaped (FixedLists k es) t n
+    → (from * k ≤ to * k) × (to * k ≤ length es.value.rows)
+fixed_room (fixed_size_list t j nl) n from to k es le hi h =
+    let same : length es.value.rows ≡ n * k = h.1.1 ∙ ap (λ i. n * i) (sym h.0) in
+    (mul-le-mul_right k le, omega (arith, same, mul-le-mul_right k hi))
+fixed_room _ n from to k es le hi h = absurd h
+
+pub fixed_picked : (t : Term) (n from to k : ℕ) (es fs : Rc Column Global) → from ≤ to → to ≤ n → IsShaped (FixedLists k es) t n
+    → IsPickedColumn (span (from * k) (to * k)) es.value fs.value → IsPickedContent t (span from to) n (FixedLists k es) (FixedLists k fs)
+fixed_picked (fixed_size_list t j nl) n from to k es fs le hi h p =
+    let g : List Row → Row = λ rs. list_row (rows_from rs) in
+    let room = fixed_room (fixed_size_list t j nl) n from to k es le hi h in
+    let cut : fs.value.rows ≡ slice_range es.value.rows (from * k) (to * k) =
+    p.rows ∙ picked_range (from * k) (to * k) es.value.rows room.0 room.1 in
+    let end : to ≡ from + (to - from) = omega (arith, le) in
+    let size : to * k ≡ from * k + (to - from) * k = ap (λ x. x * k) end ∙ mul_over from (to - from) k in
+    let long : length fs.value.rows ≡ (to - from) * k =
+    ap length p.rows ∙ length-picked (span (from * k) (to * k)) es.value.rows (span_below (from * k) (to * k) _ room.0 room.1)
+    ∙ span_long (from * k) (to * k) ∙ omega (arith, size) in
+    let all : slice_range (chunks k n es.value.rows) from to ≡ picked (span from to) (chunks k n es.value.rows) =
+    sym (picked_range from to (chunks k n es.value.rows) le (omega (arith, length-chunks k n es.value.rows, hi))) in
+    record {
+      shape = (h.0, (p.dtype ∙ h.1.0, long ∙ ap (λ i. i * k) (sym (span_long from to)) ∙ ap (λ i. length (span from to) * i) h.0));
+      rows = ap (λ i. map g (chunks k i fs.value.rows)) (span_long from to) ∙ ap (λ l. map g (chunks k (to - from) l)) cut
+          ∙ ap (map g) (chunks_range k n from to es.value.rows le hi ∙ all) ∙ sym (picked-map g (span from to) (chunks k n es.value.rows));
+    }
+fixed_picked _ n from to k es fs le hi h p = absurd h
+
+-- ---- extensions
+
+pub storage_picked : (t : Term) (ps : List ℕ) (n : ℕ) (es fs : Rc Column Global) → Below n ps → IsShaped (Storage es) t n
+    → IsPickedColumn ps es.value fs.value → IsPickedContent t ps n (Storage es) (Storage fs)
+storage_picked (extension id t x) ps n es fs b h p = record {
+  shape = (p.dtype ∙ h.0, ap length p.rows ∙ length-picked ps es.value.rows (subst (λ j. Below j ps) (sym h.1) b));
+  rows = p.rows;
+}
+storage_picked _ ps n es fs b h p = absurd h
+
+pub storage_count : (t : Term) (n : ℕ) (es : Rc Column Global) → IsShaped (Storage es) t n → length es.value.rows ≡ n
+storage_count (extension id t x) n es h = h.1
+storage_count _ n es h = absurd h
+
+-- ---- structs
+
+length-inside : (n : ℕ) (fs : Fields) (cs : List Column) → AreFields n fs cs → length (inside_structs n (column_rows cs)) ≡ n
+length-inside n no_fields [] h = length-replicate n no_rows
+length-inside n no_fields (c ∷ cs) h = absurd h
+length-inside n (field x t fs) [] h = absurd h
+length-inside n (field x t fs) (c ∷ cs) h =
+    let others : length (inside_structs n (column_rows cs)) ≡ n = length-inside n fs cs h.1 in
+    length-zip_map row c.rows (inside_structs n (column_rows cs)) (h.0.1 ∙ sym others) ∙ others
+
+fields_picked : (n : ℕ) (fs : Fields) (ps : List ℕ) (cs ds : List Column) → Below n ps → AreFields n fs cs → ArePickedColumns ps cs ds
+    → AreFields (length ps) fs ds
+fields_picked n no_fields ps [] [] b h p = tt
+fields_picked n (field x t fs) ps (c ∷ cs) (d ∷ ds) b h p = (
+  (p.0.dtype ∙ h.0.0, ap length p.0.rows ∙ length-picked ps c.rows (subst (λ j. Below j ps) (sym h.0.1) b)),
+  fields_picked n fs ps cs ds b h.1 p.1,
+)
+fields_picked n (field x t fs) ps [] [] b h p = absurd h
+fields_picked n no_fields ps (c ∷ cs) (d ∷ ds) b h p = absurd h
+fields_picked n fs ps [] (d ∷ ds) b h p = absurd p
+fields_picked n fs ps (c ∷ cs) [] b h p = absurd p
+
+inside_picked : (n : ℕ) (fs : Fields) (ps : List ℕ) (cs ds : List Column) → Below n ps → AreFields n fs cs → ArePickedColumns ps cs ds
+    → inside_structs (length ps) (column_rows ds) ≡ picked ps (inside_structs n (column_rows cs))
+inside_picked n no_fields ps [] [] b h p = sym (picked-replicate n no_rows ps b)
+inside_picked n (field x t fs) ps (c ∷ cs) (d ∷ ds) b h p =
+    ap (λ (l : List Row). zip_map row l (inside_structs (length ps) (column_rows ds))) p.0.rows
+    ∙ ap (zip_map row (picked ps c.rows)) (inside_picked n fs ps cs ds b h.1 p.1)
+    ∙ sym (picked-zip row ps c.rows (inside_structs n (column_rows cs)) (h.0.1 ∙ sym (length-inside n fs cs h.1)))
+inside_picked n (field x t fs) ps [] [] b h p = absurd h
+inside_picked n no_fields ps (c ∷ cs) (d ∷ ds) b h p = absurd h
+inside_picked n fs ps [] (d ∷ ds) b h p = absurd p
+inside_picked n fs ps (c ∷ cs) [] b h p = absurd p
+
+pub structs_picked : (t : Term) (ps : List ℕ) (n : ℕ) (v w : Vec Column Global) → Below n ps → IsShaped (Structs v) t n
+    → ArePickedColumns ps v.items w.items → IsPickedContent t ps n (Structs v) (Structs w)
+structs_picked (structure fs nl) ps n v w b h p = record {
+  shape = fields_picked n fs ps v.items w.items b h p;
+  rows = ap (map list_row) (inside_picked n fs ps v.items w.items b h p) ∙ sym (picked-map list_row ps (inside_structs n (column_rows v.items)));
+}
+structs_picked _ ps n v w b h p = absurd h
+
+counted_fields : (n : ℕ) (fs : Fields) (cs : List Column) → AreFields n fs cs → AllByRecursion (λ (a : Column). length a.rows ≡ n) cs
+counted_fields n no_fields [] h = tt
+counted_fields n no_fields (c ∷ cs) h = absurd h
+counted_fields n (field x t fs) [] h = absurd h
+counted_fields n (field x t fs) (c ∷ cs) h = (h.0.1, counted_fields n fs cs h.1)
+
+pub structs_counted : (t : Term) (n : ℕ) (v : Vec Column Global) → IsShaped (Structs v) t n
+    → AllByRecursion (λ (a : Column). length a.rows ≡ n) v.items
+structs_counted (structure fs nl) n v h = counted_fields n fs v.items h
+structs_counted _ n v h = absurd h
+
+pub none_picked : (ps : List ℕ) (cs : List Column) → length cs < 1 → ArePickedColumns ps cs []
+none_picked ps [] h = tt
+none_picked ps (c ∷ cs) h = absurd (omega (arith, h))
+
+-- ---- masks and rows
+
+length-content : (t : Term) (n : ℕ) (c : Content) → IsShaped c t n → length (content_rows c t n) ≡ n
+length-content t n c h = length_by t n c h
+  where
+    length_by : (t : Term) (n : ℕ) (c : Content) → IsShaped c t n → length (content_rows c t n) ≡ n
+    length_by null n Nulls h = length-copies n null_row
+    length_by (boolean nl) n (Truths m) h = length-map _ _ ∙ h
+    length_by (primitive k nl) n (Numbers a) h = numbers_long a ∙ h.1
+    length_by (decimal p s nl) n (Decimals a) h = numbers_long a ∙ h
+    length_by (utf8 nl) n (Texts a) h = length-map _ _ ∙ h
+    length_by (binary nl) n (Texts a) h = length-map _ _ ∙ h
+    length_by (list t nl) n (Lists os es) h = length-map _ _ ∙ length-pieces n os es.value.rows h.1.count
+    length_by (fixed_size_list t k nl) n (FixedLists j es) h = length-map _ _ ∙ length-chunks j n es.value.rows
+    length_by (structure fs nl) n (Structs v) h = length-map _ _ ∙ length-inside n fs v.items h
+    length_by (extension id t x) n (Storage es) h = h.1
+    length_by t n (Constant v) h = length-copies n (row_under t v)
+    length_by _ n _ h = absurd h
+
+masked_picked : (n : ℕ) (nl : Bool) (ps : List ℕ) (m k : Validity) (old new : List Row) → IsMask n nl m → length old ≡ n
+    → IsPickedMask ps m k → new ≡ picked ps old → masked k new ≡ picked ps (masked m old)
+masked_picked n nl ps None None old new h l p e = e
+masked_picked n nl ps (Some m) (Some k) old new h l p e =
+    let f : Bool → Row → Row = λ b r. if b then r else null_row in
+    ap (λ (x : List Bool). zip_map f x new) p ∙ ap (zip_map f (picked ps m)) e ∙ sym (picked-zip f ps m old (h.0 ∙ sym l))
+masked_picked n nl ps None (Some k) old new h l p e = absurd p
+masked_picked n nl ps (Some m) None old new h l p e = absurd p
+
+pub mask_picked : (n : ℕ) (nl : Bool) (ps : List ℕ) (m k : Validity) → IsMask n nl m → Below n ps → IsPickedMask ps m k
+    → IsMask (length ps) nl k
+mask_picked n nl ps None None h b p = tt
+mask_picked n nl ps (Some m) (Some k) h b p = (ap length p ∙ length-picked ps m (subst (λ j. Below j ps) (sym h.0) b), h.1)
+mask_picked n nl ps None (Some k) h b p = absurd p
+mask_picked n nl ps (Some m) None h b p = absurd p
+
+-- the rows of the parts that are picked are the rows that are picked
+pub picked_rows : (a : Inside) (ps : List ℕ) (k : Validity) (c : Content) → IsArray a → IsPickedMask ps a.held.validity k
+    → IsPickedContent (term_of a.dtype) ps a.len a.held.content c
+    → masked k (content_rows c (term_of a.dtype) (length ps)) ≡ picked ps (column_of a).rows
+picked_rows a ps k c h p q =
+    masked_picked a.len (nullable (term_of a.dtype)) ps a.held.validity k (content_rows a.held.content (term_of a.dtype) a.len)
+    (content_rows c (term_of a.dtype) (length ps)) h.mask (length-content (term_of a.dtype) a.len a.held.content h.shape) p q.rows
+
+-- ---- the array of what is picked
+
+pub record IsMade (ps : List ℕ) (x : Column) (t : Term) (n : ℕ) (k : Validity) (c : Content) : Type 0 where
+  pub shape : IsShaped c t n
+  pub mask : IsMask n (nullable t) k
+  pub same : masked k (content_rows c t n) ≡ picked ps x.rows
+  pub count : n ≡ length (masked k (content_rows c t n))
+  pub fit : AllByRecursion (Fits t) (masked k (content_rows c t n))
+
+pub within : (a : Inside) (x : Column) (to : ℕ) → IsArray a → column_of a ≡ x → to ≤ length x.rows → to ≤ a.len
+within a x to h v hi = omega (arith, h.count, ap (λ (x : Column). length x.rows) v, hi)
+
+made_by : (a : Inside) (ps : List ℕ) (k : Validity) (c : Content) → IsArray a → Below a.len ps
+    → IsPickedMask ps a.held.validity k → IsPickedContent (term_of a.dtype) ps a.len a.held.content c
+    → IsMade ps (column_of a) (term_of a.dtype) (length ps) k c
+made_by a ps k c h b p q =
+    let t = term_of a.dtype in
+    let rs = (column_of a).rows in
+    let same : masked k (content_rows c t (length ps)) ≡ picked ps rs = picked_rows a ps k c h p q in
+    let below : Below (length rs) ps = subst (λ n. Below n ps) h.count b in
+    record {
+      shape = q.shape;
+      mask = mask_picked a.len (nullable t) ps a.held.validity k h.mask b p;
+      same = same;
+      count = sym (ap length same ∙ length-picked ps rs below);
+      fit = subst (AllByRecursion (Fits t)) (sym same) (all_picked (Fits t) ps rs h.holds.fit);
+    }
+
+-- where x is what the array is seen as, and t a copy of its type
+pub made_of : (a : Inside) (x : Column) (from to : ℕ) (t : Term) (k : Validity) (c : Content) → IsArray a
+    → column_of a ≡ x → from ≤ to → to ≤ length x.rows → t ≡ term_of a.dtype
+    → IsPickedMask (span from to) a.held.validity k
+    → IsPickedContent (term_of a.dtype) (span from to) a.len a.held.content c
+    → IsMade (span from to) x t (to - from) k c
+made_of a x from to t k c h v le hi e p q =
+    let ps = span from to in
+    let below : Below a.len ps = span_below from to a.len le (within a x to h v hi) in
+    subst (λ (x : Column). IsMade ps x t (to - from) k c) v
+    (subst (λ (t : Term). IsMade ps (column_of a) t (to - from) k c) (sym e)
+    (subst (λ (n : ℕ). IsMade ps (column_of a) (term_of a.dtype) n k c) (span_long from to) (made_by a ps k c h below p q)))
+
+-- ---- weights
+
+fewer_nodes : (ns : List ArrayNode) (v : ArrayNodes)
+    → array_nodes_count (array_nodes_before ns no_array_nodes) ≤ array_nodes_count (array_nodes_before ns v)
+fewer_nodes [] v = omega arith
+fewer_nodes (n ∷ ns) v = omega (arith, fewer_nodes ns v)
+
+-- a content has no more nodes without a mask
+pub lighter : (n : ℕ) (v : ArrayNodes) (c : Content)
+    → array_node_count (content_node c 0 no_array_nodes) ≤ array_node_count (content_node c n v)
+lighter n v Nulls = omega arith
+lighter n v (Truths m) = omega arith
+lighter n v (Numbers a) = omega arith
+lighter n v (Decimals a) = omega arith
+lighter n v (Texts a) = omega arith
+lighter n v (Lists os es) = omega arith
+lighter n v (FixedLists k es) = omega arith
+lighter n v (Structs fields) = omega (arith, fewer_nodes (column_nodes fields.items) v)
+lighter n v (Storage a) = omega arith
+lighter n v (Constant c) = omega arith

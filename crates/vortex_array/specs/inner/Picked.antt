@@ -1,0 +1,49 @@
+-- What is picked of lists and of arrays: the elements at places, in order.
+--     picked                the elements at places
+--     from_on               places that follow one another
+--     IsPickedColumn        the rows at places, under the same type
+--     IsPickedContent       the same of how rows are held
+use Rattle.std.specs.Prelude.{◌≡◌, ℕ, zero, suc, List, [], ◌∷◌, Some, None, length}
+use Rattle.vortex_terms.specs.Term.{Term}
+use Rattle.vortex_node_rows.specs.RowsOf.{Validity}
+use Rattle.vortex_array.specs.Column.{Column}
+use Rattle.vortex_array.specs.Content.{content_rows, IsShaped}
+use Rattle.vortex_array.specs.declared.held.Content.{Content}
+
+-- the element at a place, before others
+abbrev pub at_onto : {A : Type 0} → List A → ℕ → List A → List A
+at_onto [] i ys = ys
+at_onto (x ∷ xs) zero ys = x ∷ ys
+at_onto (x ∷ xs) (suc i) ys = at_onto xs i ys
+
+-- the elements at places
+abbrev pub picked : {A : Type 0} → List ℕ → List A → List A
+picked [] xs = []
+picked (i ∷ is) xs = at_onto xs i (picked is xs)
+
+-- so many places from a on
+abbrev pub from_on : ℕ → ℕ → List ℕ
+from_on zero a = []
+from_on (suc k) a = a ∷ from_on k (suc a)
+
+-- the rows at places, under the same type
+pub record IsPickedColumn (ps : List ℕ) (old new : Column) : Type 0 where
+  pub dtype : new.dtype ≡ old.dtype
+  pub rows : new.rows ≡ picked ps old.rows
+
+-- each column of the second list is picked of the one of the first
+abbrev pub ArePickedColumns : List ℕ → List Column → List Column → Type 0
+ArePickedColumns ps [] [] = Unit {0}
+ArePickedColumns ps (c ∷ cs) (d ∷ ds) = IsPickedColumn ps c d × ArePickedColumns ps cs ds
+ArePickedColumns ps _ _ = ⊥
+
+-- a mask is picked of the other, where there is one
+abbrev pub IsPickedMask : List ℕ → Validity → Validity → Type 0
+IsPickedMask ps None None = Unit {0}
+IsPickedMask ps (Some m) (Some k) = k ≡ picked ps m
+IsPickedMask ps _ _ = ⊥
+
+-- rows at places, held under the same type
+pub record IsPickedContent (t : Term) (ps : List ℕ) (n : ℕ) (old new : Content) : Type 0 where
+  pub shape : IsShaped new t (length ps)
+  pub rows : content_rows new t (length ps) ≡ picked ps (content_rows old t n)
