@@ -3,3 +3,8 @@ pub mod Refusals
 pub mod FieldArrays
 pub mod Truths
 pub mod Childless
+pub mod ValidLists
+pub mod PartRows
+pub mod HeldRows
+pub mod ConstantRows
+pub mod HeldParts

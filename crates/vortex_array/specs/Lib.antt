@@ -4,3 +4,5 @@ pub mod Content
 pub mod Falls
 pub mod Decoded
 pub mod Answers
+pub mod ValidRows
+pub mod PartColumns

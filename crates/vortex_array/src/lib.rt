@@ -1,6 +1,7 @@
 //! Arrays: rows of a type, and how they are held.
 #![tactic(auto)]
 
+mod access;
 mod array;
 mod context;
 mod decode;
