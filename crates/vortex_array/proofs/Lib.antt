@@ -8,3 +8,5 @@ pub mod PartRows
 pub mod HeldRows
 pub mod ConstantRows
 pub mod HeldParts
+pub mod ValueRows
+pub mod HeldValues

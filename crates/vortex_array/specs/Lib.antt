@@ -6,3 +6,4 @@ pub mod Decoded
 pub mod Answers
 pub mod ValidRows
 pub mod PartColumns
+pub mod ValuesAt

@@ -13,7 +13,7 @@ use vortex_mask::{Mask, MaskError};
 use vortex_node_rows::Encoding;
 
 /// What the mask says of row `i`.
-fn is_unmasked(validity: &Option<Mask>, i: usize) -> bool
+pub(crate) fn is_unmasked(validity: &Option<Mask>, i: usize) -> bool
     requires { IfSome validity.now (λ m. i < length m) }
     ensures { result ≡ valid_at validity.now i }
 {

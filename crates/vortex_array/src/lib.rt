@@ -9,6 +9,7 @@ mod decode_nested;
 mod error;
 mod held;
 mod parts;
+mod values;
 
 pub use context::ArrayContext;
 pub use error::ArrayError;
