@@ -5,3 +5,10 @@ pub mod Truths
 pub mod Childless
 pub mod PickLaws
 pub mod PickedContents
+pub mod ValidLists
+pub mod PartRows
+pub mod HeldRows
+pub mod ConstantRows
+pub mod HeldParts
+pub mod ValueRows
+pub mod HeldValues

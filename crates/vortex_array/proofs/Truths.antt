@@ -1,14 +1,13 @@
 -- The truth values that an array holds, had back from its rows.
 use Rattle.std.proofs.Common.{◌≡◌, ◌∙◌, ℕ, zero, suc, List, [], ◌∷◌, Bool, false, Some, None, map, replicate, refl, sym, ap, subst, true≢false}
 use Rattle.vortex_terms.specs.Term.{Term, boolean}
-use Rattle.vortex_terms.specs.Types.{nullable}
 use Rattle.vortex_terms.specs.Row.{Row, truth_row, copies}
 use Rattle.vortex_terms.specs.FromColumns.{masked}
 use Rattle.vortex_scalar_value.specs.Value.{ValueTerm}
 use Rattle.vortex_value_rows.specs.RowOf.{row_under}
 use Rattle.vortex_types.specs.DTypes.{term_of}
 use Rattle.vortex_node_rows.specs.RowsOf.{Validity, truth_of}
-use Rattle.vortex_array.specs.Content.{IsMask, IsArray, column_of, content_rows}
+use Rattle.vortex_array.specs.Content.{is_maskable, IsMask, IsArray, column_of, content_rows}
 use Rattle.vortex_array.specs.declared.held.Content.{Content}
 use Rattle.vortex_array.specs.declared.held.Content.TheVariants.{Truths, Constant}
 use Rattle.vortex_array.specs.declared.held.Array.TheInside.{Inside}
@@ -26,10 +25,10 @@ unmasked : (n : ℕ) (v : Validity) (rs : List Row) → IsMask n false v → mas
 unmasked n None rs h = refl
 unmasked n (Some m) rs h = absurd (true≢false (sym h.1))
 
-rows_held : (t : Term) (n : ℕ) (v : Validity) (c d : Content) → t ≡ boolean false → IsMask n (nullable t) v → c ≡ d
+rows_held : (t : Term) (n : ℕ) (v : Validity) (c d : Content) → t ≡ boolean false → IsMask n (is_maskable t) v → c ≡ d
     → map truth_of (masked v (content_rows c t n)) ≡ map truth_of (content_rows d (boolean false) n)
 rows_held t n v c d e k is =
-    ap (map truth_of) (unmasked n v (content_rows c t n) (subst (λ (u : Term). IsMask n (nullable u) v) e k))
+    ap (map truth_of) (unmasked n v (content_rows c t n) (subst (λ (u : Term). IsMask n (is_maskable u) v) e k))
     ∙ ap (λ (x : Content). map truth_of (content_rows x t n)) is
     ∙ ap (λ (u : Term). map truth_of (content_rows d u n)) e
 

@@ -101,6 +101,11 @@ IsShaped (Storage a) (extension id t x) n = IsColumn t n a.value
 IsShaped (Constant v) t n = IsSome (fitting_row t v)
 IsShaped _ _ _ = ⊥
 
+-- whether rows of the type may be masked: an extension has the nulls of its storage, and no mask beside
+abbrev pub is_maskable : Term → Bool
+is_maskable (extension id t x) = false
+is_maskable t = nullable t
+
 -- a mask of n, which there is under a nullable type alone
 abbrev pub IsMask : ℕ → Bool → Validity → Type 0
 IsMask n nl None = Unit {0}
@@ -117,6 +122,6 @@ column_of a = record {
 -- what is so of each array
 pub record IsArray (a : Inside) : Type 0 where
   pub shape : IsShaped a.held.content (term_of a.dtype) a.len
-  pub mask : IsMask a.len (nullable (term_of a.dtype)) a.held.validity
+  pub mask : IsMask a.len (is_maskable (term_of a.dtype)) a.held.validity
   pub count : a.len ≡ length (column_of a).rows
   pub holds : Holds (column_of a)

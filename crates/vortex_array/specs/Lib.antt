@@ -5,3 +5,6 @@ pub mod Falls
 pub mod Decoded
 pub mod Answers
 pub mod inner
+pub mod ValidRows
+pub mod PartColumns
+pub mod ValuesAt

@@ -3,13 +3,12 @@
 ghost use Rattle.std.specs.Prelude.{◌≡◌, ◌≤◌, length, map, false};
 ghost use Rattle.std.specs.List.{AllByRecursion};
 ghost use Rattle.vortex_terms.specs.Term.{boolean};
-ghost use Rattle.vortex_terms.specs.Types.{nullable};
 ghost use Rattle.vortex_terms.specs.Fits.{Fits};
 ghost use Rattle.vortex_types.specs.DTypes.{term_of};
 ghost use Rattle.vortex_value_rows.specs.RowOf.{row_under};
 ghost use Rattle.vortex_node_rows.specs.RowsOf.{most_rows, truth_of};
 ghost use Rattle.vortex_array.specs.Column.{Holds};
-ghost use Rattle.vortex_array.specs.Content.{held_node, held_rows, IsMask, IsShaped};
+ghost use Rattle.vortex_array.specs.Content.{held_node, held_rows, is_maskable, IsMask, IsShaped};
 
 use crate::held::{Array, Content, Held};
 use vortex_mask::Mask;
@@ -30,7 +29,7 @@ impl Array {
     /// The array of these rows. Each other function that makes an array ends here.
     pub(crate) fn made(dtype: DType, len: usize, held: Held) -> Array
         requires shape { IsShaped held.content (term_of dtype) len }
-        requires mask { IsMask len (nullable (term_of dtype)) held.validity }
+        requires mask { IsMask len (is_maskable (term_of dtype)) held.validity }
         requires count { len ≡ length (held_rows (term_of dtype) len held) }
         requires fit { AllByRecursion (Fits (term_of dtype)) (held_rows (term_of dtype) len held) }
         requires few { len ≤ most_rows }

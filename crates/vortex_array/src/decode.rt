@@ -3,7 +3,6 @@
 ghost use Rattle.std.specs.Prelude.{◌≡◌, ◌≤◌, IfOk, None, if◌then◌else◌, length, map, true};
 ghost use Rattle.std.specs.Option.{option_map};
 ghost use Rattle.vortex_terms.specs.Term.{binary, boolean, decimal, null, primitive, utf8};
-ghost use Rattle.vortex_terms.specs.Types.{nullable};
 ghost use Rattle.vortex_number.specs.PType.{format_of};
 ghost use Rattle.vortex_number.specs.WholeKind.{whole_kind};
 ghost use Rattle.vortex_terms.specs.Row.{bytes_row, truth_row};
@@ -15,7 +14,7 @@ ghost use Rattle.vortex_node_rows.specs.Encodings.{encoding_in};
 ghost use Rattle.vortex_node_rows.specs.Leaves.{constant_rows, decimals_of, numbers_of, pieces_of, truths_of};
 ghost use Rattle.vortex_node_rows.specs.RowsOf.{has_none, masked_rows, most_rows, null_rows, rows_of, text_rows, validity_of};
 ghost use Rattle.vortex_array.specs.Answers.{Answers};
-ghost use Rattle.vortex_array.specs.Content.{held_rows, IsMask, IsShaped};
+ghost use Rattle.vortex_array.specs.Content.{held_rows, is_maskable, IsMask, IsShaped};
 ghost use Rattle.vortex_array.specs.Decoded.{rows_in};
 
 use crate::context::ArrayContext;
@@ -78,7 +77,7 @@ fn held(
     ensures rows { Answers (held_rows (term_of dtype.now) n) result
         (rows_in (encoding_in context.now) encoding parts.now (term_of dtype.now) n) }
     ensures shape { IfOk result (λ h. IsShaped h.content (term_of dtype.now) n) }
-    ensures mask { IfOk result (λ h. IsMask n (nullable (term_of dtype.now)) h.validity) }
+    ensures mask { IfOk result (λ h. IsMask n (is_maskable (term_of dtype.now)) h.validity) }
 {
     match (encoding, dtype) {
         (Encoding::Null, DType::Null) => nulls(parts, n),
@@ -324,7 +323,7 @@ fn constants(alloc: Global, parts: &NodeParts, dtype: &DType, n: usize) -> Resul
         (if has_none (node_children parts.now) then constant_rows t n (node_buffers parts.now)
         else None) }
     ensures shape { IfOk result (λ h. IsShaped h.content (term_of dtype.now) n) }
-    ensures mask { IfOk result (λ h. IsMask n (nullable (term_of dtype.now)) h.validity) }
+    ensures mask { IfOk result (λ h. IsMask n (is_maskable (term_of dtype.now)) h.validity) }
 {
     if !parts.children().is_empty() {
         return Err(ArrayError::Malformed);

@@ -1,7 +1,7 @@
 //! Arrays of lists, structs and extensions from the nodes of bodies.
 
-ghost use Rattle.std.specs.Prelude.{◌≡◌, ◌≤◌, ◌<◌, ◌*◌, IfOk, IsOkUnless, Some};
-ghost use Rattle.vortex_terms.specs.Types.{field_at, field_count, nullable};
+ghost use Rattle.std.specs.Prelude.{◌≡◌, ◌≤◌, ◌<◌, ◌*◌, IfOk, IsOkUnless, Some, false};
+ghost use Rattle.vortex_terms.specs.Types.{field_at, field_count};
 ghost use Rattle.vortex_terms.specs.Term.{extension, fixed_size_list, list, structure};
 ghost use Rattle.vortex_types.specs.DTypes.{term_of};
 ghost use Rattle.vortex_names.specs.Nullable.{is_nullable};
@@ -206,7 +206,7 @@ pub(crate) fn extension(
         (only_rows_of (encoding_in context.now) (node_children parts.now) ext.now.storage n)) }
     ensures shape { IfOk result (λ h.
         IsShaped h.content (extension ext.now.id ext.now.storage ext.now.metadata) n) }
-    ensures mask { IfOk result (λ h. IsMask n (nullable ext.now.storage) h.validity) }
+    ensures mask { IfOk result (λ h. IsMask n false h.validity) }
 {
     if parts.buffer_count() != 0 {
         return Err(ArrayError::Malformed);

@@ -1,6 +1,7 @@
 //! Arrays: rows of a type, and how they are held.
 #![tactic(auto)]
 
+mod access;
 mod array;
 mod context;
 mod decode;
@@ -10,6 +11,7 @@ mod held;
 mod parts;
 mod pick;
 mod select;
+mod values;
 
 pub use context::ArrayContext;
 pub use error::ArrayError;
