@@ -1,10 +1,13 @@
 //! Operators on numbers, and bounds of texts and of bytes.
 
+ghost use Rattle.vortex_scalar.specs.Arithmetic.{AreOfOneKind};
+ghost use Rattle.vortex_scalar.specs.Views.{primitive_term};
+
 use std::alloc::Global;
 use std::test::*;
 use vortex_buffer::ByteBuffer;
 use vortex_names::Nullability;
-use vortex_scalar::Scalar;
+use vortex_scalar::{PrimitiveScalar, Scalar};
 use vortex_types::DType;
 use vortex_value::{NumericOperator, PType};
 
@@ -71,31 +74,54 @@ fn operators_are_exact(rt: HostRuntime) {
     );
 }
 
-/// The sum and the difference, by calls and by operators, where there are both.
-fn sums(one: &Scalar, other: &Scalar) -> Option<(Option<Option<i8>>, Option<Option<i8>>)> {
-    let one = one.as_primitive_opt()?;
-    let other = other.as_primitive_opt()?;
-    if one.ptype() != other.ptype() {
-        return None;
-    }
-    let sum = one.checked_add(&other)?;
-    let difference = one.checked_sub(&other)?;
-    if sum == one + other && difference == one - other {
-        Some((sum.as_opt::<i8>(), difference.as_opt::<i8>()))
+/// The sum by the call, where the operator has the same.
+#[tactic(auto, using(crate::proofs::Operating::can_combine))]
+fn sum_of<'a>(one: &PrimitiveScalar<'a>, other: &PrimitiveScalar<'a>) -> Option<Option<i8>>
+    requires { AreOfOneKind (primitive_term one.now) (primitive_term other.now) }
+{
+    let sum = one.checked_add(other)?;
+    if sum == *one + *other {
+        sum.as_opt::<i8>()
     } else {
         None
     }
 }
 
+/// The difference by the call, where the operator has the same.
+#[tactic(auto, using(crate::proofs::Operating::can_combine))]
+fn difference_of<'a>(one: &PrimitiveScalar<'a>, other: &PrimitiveScalar<'a>) -> Option<Option<i8>>
+    requires { AreOfOneKind (primitive_term one.now) (primitive_term other.now) }
+{
+    let difference = one.checked_sub(other)?;
+    if difference == *one - *other {
+        difference.as_opt::<i8>()
+    } else {
+        None
+    }
+}
+
+/// The sum and the difference of two numbers of one kind.
+fn sums(one: &Scalar, other: &Scalar) -> [Option<Option<i8>>; 2] {
+    match (one.as_primitive_opt(), other.as_primitive_opt()) {
+        (Some(one), Some(other)) => {
+            if one.ptype() != other.ptype() {
+                return [None, None];
+            }
+            [sum_of(&one, &other), difference_of(&one, &other)]
+        }
+        _ => [None, None],
+    }
+}
+
 #[test]
 fn sums_are_those_of_the_operators(rt: HostRuntime) {
-    assert_eq!(rt;
-        sums(&Scalar::primitive(7i8, NOT), &Scalar::primitive(9i8, MAY)),
-        Some((Some(Some(16)), Some(Some(-2))))
+    let (sum, difference) = (Some(Some(16)), Some(Some(-2)));
+    assert!(rt;
+        sums(&Scalar::primitive(7i8, NOT), &Scalar::primitive(9i8, MAY)) == [sum, difference]
     );
-    assert_eq!(rt;
-        sums(&Scalar::primitive(127i8, NOT), &Scalar::primitive(1i8, MAY)),
-        None
+    assert!(rt;
+        sums(&Scalar::primitive(127i8, NOT), &Scalar::primitive(1i8, MAY))
+            == [None, Some(Some(126))]
     );
 }
 
