@@ -1,11 +1,13 @@
 //! The answer to a question.
 
+use crate::arrays::rows_answer;
 use crate::messages::messages_answer;
 use crate::operations::{bounds_answer, cast_answer, numeric_answer};
 use crate::protos::{proto_type_answer, resolve_answer};
 use crate::scalars::{order_answer, scalar_answer};
 use crate::types::{same_answer, type_answer};
 use std::alloc::{AllocError, AllocFailed, Global};
+use vortex_array::ArrayError;
 use vortex_buffer::BufferError;
 use vortex_dtype::DTypeError;
 use vortex_ipc::IpcError;
@@ -19,6 +21,8 @@ pub(crate) enum Refusal {
     Type(DTypeError),
     /// A call on scalars refused.
     Scalar(ScalarError),
+    /// A call on arrays refused.
+    Array(ArrayError),
     /// Lack of memory.
     OutOfMemory,
 }
@@ -37,6 +41,15 @@ impl From<ScalarError> for Refusal {
         match error {
             ScalarError::OutOfMemory => Refusal::OutOfMemory,
             _ => Refusal::Scalar(error),
+        }
+    }
+}
+
+impl From<ArrayError> for Refusal {
+    fn from(error: ArrayError) -> Refusal {
+        match error {
+            ArrayError::OutOfMemory => Refusal::OutOfMemory,
+            _ => Refusal::Array(error),
         }
     }
 }
@@ -78,6 +91,7 @@ pub(crate) fn answer(alloc: Global, line: &str) -> Result<String, AllocError> {
         Err(Refusal::Unknown) => String::from_str(alloc, "Unknown"),
         Err(Refusal::Type(error)) => format!(in alloc; "{error:?}"),
         Err(Refusal::Scalar(error)) => format!(in alloc; "{error:?}"),
+        Err(Refusal::Array(error)) => format!(in alloc; "{error:?}"),
         Err(Refusal::OutOfMemory) => Err(AllocError),
     }
 }
@@ -109,6 +123,8 @@ fn asked(alloc: Global, line: &str) -> Result<String, Refusal> {
         (Some("messages"), Some(sizes), Some(bytes), None, None) => {
             messages_answer(alloc, sizes, bytes)
         }
+        (Some("rows"), Some(names), Some(count), Some(dtype), Some(body))
+            if words.next().is_none() => { rows_answer(alloc, names, count, dtype, body) }
         _ => Err(Refusal::Unknown),
     }
 }

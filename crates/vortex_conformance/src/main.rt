@@ -3,6 +3,7 @@
 #![tactic(auto)]
 
 mod answers;
+mod arrays;
 mod messages;
 mod operations;
 mod protos;
