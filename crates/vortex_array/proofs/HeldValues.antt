@@ -1,5 +1,5 @@
 -- The values of the rows of an array, by how they are held.
-use Rattle.std.proofs.Common.{◌≡◌, ◌≤◌, ◌<◌, ◌+◌, ◌*◌, ◌∙◌, ◌⊎◌, inl, inr, get_or, pos, ℕ, zero, suc, ℤ, List, [], ◌∷◌, Bool, true, false, Option, Some, None, map, length, refl, sym, ap, subst, arith}
+use Rattle.std.proofs.Common.{◌≡◌, ◌≤◌, ◌<◌, ◌+◌, ◌*◌, ◌∙◌, ◌⊎◌, inl, inr, get_or, ℕ, zero, suc, ℤ, List, [], ◌∷◌, Bool, true, false, Option, Some, None, map, length, refl, sym, ap, subst, arith}
 use Rattle.std.specs.Prelude.{slice_get, slice_range, IfOk, Result, Ok, Err}
 use Rattle.std.specs.Option.{option_map, IsSome, unwrap_or}
 use Rattle.std.specs.List.{AllByRecursion}
@@ -7,13 +7,13 @@ use Rattle.std.specs.Str.{IsUtf8}
 use Rattle.std.proofs.lemmas.Option.{slice_get-map, slice_get-get_or}
 use Rattle.std.proofs.lemmas.List.{length-map}
 use Rattle.std.proofs.lemmas.Nat.{mul-le}
-use Rattle.vortex_terms.specs.Term.{WholeKind, Term, null, boolean, primitive, decimal, utf8, binary, structure, list, extension, fixed_size_list, Fields, no_fields, field, unsigned_8}
+use Rattle.vortex_terms.specs.Term.{WholeKind, Term, null, boolean, primitive, decimal, utf8, binary, structure, list, extension, fixed_size_list, Fields, no_fields, field}
 use Rattle.vortex_terms.specs.Row.{Row, null_row, truth_row, whole_row, bytes_row, list_row, Rows, no_rows, rows_from, copies}
 use Rattle.vortex_terms.specs.Fits.{Fits, InRange}
 use Rattle.vortex_terms.specs.FromColumns.{masked, struct_rows, inside_structs, list_rows, pieces}
 use Rattle.vortex_types.specs.DTypes.{term_of}
 use Rattle.vortex_scalar_value.specs.Value.{ValueTerm, null_value, truth_value, whole_value, decimal_value, bytes_value, text_value, list_value, values_from}
-use Rattle.vortex_value_rows.specs.RowOf.{row_of, row_under, fitting_row, rows_by, field_rows}
+use Rattle.vortex_value_rows.specs.RowOf.{row_of, row_under, fitting_row, rows_by}
 use Rattle.vortex_value.specs.declared.decimal.DecimalValueType.{DecimalValueType}
 use Rattle.vortex_cast.proofs.Leaves.{null_row_of}
 use Rattle.vortex_node_rows.specs.Pieces.{chunks}
@@ -21,7 +21,7 @@ use Rattle.vortex_leaves.specs.Numbers.{NumberBytes, number_rows}
 use Rattle.vortex_leaves.specs.Texts.{AreOffsets, TextBytes, text_pieces}
 use Rattle.vortex_leaves.proofs.Rising.{ends_within, piece_there}
 use Rattle.vortex_node_rows.specs.RowsOf.{Validity}
-use Rattle.vortex_array.specs.ArrayNode.{ArrayNode, array_node, ArrayNodes, no_array_nodes, array_nodes_before, array_node_count, array_nodes_count}
+use Rattle.vortex_array.specs.ArrayNode.{ArrayNodes, no_array_nodes, array_nodes_before, array_node_count, array_nodes_count}
 use Rattle.vortex_array.specs.Column.{Column}
 use Rattle.vortex_array.specs.Content.{content_rows, content_node, mask_nodes, column_nodes, column_rows, column_of, IsArray, IsShaped, AreFields}
 use Rattle.vortex_array.specs.ValidRows.{valid_at}
@@ -48,7 +48,7 @@ pub shown_value : (a : Inside) (c : Column) (i : ℕ) (v : ValueTerm) → IsArra
 shown_value a c i v h is below valid at =
     let count : a.len ≡ length c.rows = h.count ∙ ap (λ (c : Column). length c.rows) is in
     let here = shown_place a.held.validity (content_rows a.held.content (term_of a.dtype) a.len) a.len i at.0
-        (held_count a h) (omega (arith, below, count)) valid at.1.0 in
+    (held_count a h) (omega (arith, below, count)) valid at.1.0 in
     ap (λ (c : Column). row_of c.dtype v) (sym is) ∙ at.1.1 ∙ sym here ∙ ap (λ (c : Column). slice_get c.rows i) is
 
 pub hidden_value : (a : Inside) (c : Column) (i : ℕ) (v : ValueTerm) → IsArray a → column_of a ≡ c → i < length c.rows
@@ -56,7 +56,7 @@ pub hidden_value : (a : Inside) (c : Column) (i : ℕ) (v : ValueTerm) → IsArr
 hidden_value a c i v h is below hidden e =
     let count : a.len ≡ length c.rows = h.count ∙ ap (λ (c : Column). length c.rows) is in
     let here = hidden_place a.held.validity (content_rows a.held.content (term_of a.dtype) a.len) a.len i
-        (held_count a h) h.count (omega (arith, below, count)) hidden in
+    (held_count a h) h.count (omega (arith, below, count)) hidden in
     ap (row_of c.dtype) e ∙ null_row_of c.dtype ∙ sym here ∙ ap (λ (c : Column). slice_get c.rows i) is
 
 copies_at : (n i : ℕ) (r : Row) → i < n → slice_get (copies n r) i ≡ Some r
@@ -93,8 +93,8 @@ pub truths_value : (t : Term) (n i : ℕ) (c : Content) (m : List Bool) (b : Boo
 truths_value t n i c m b v is shape below e f =
     let known = truths_row m b t n (subst (λ (x : Content). IsShaped x t n) is shape) in
     let here : slice_get (map truth_row m) i ≡ Some (truth_row b) =
-        slice_get-map truth_row m i ∙ ap (option_map truth_row) (slice_get-get_or m i false (omega (arith, below, known.0)))
-        ∙ ap (λ (x : Bool). Some (truth_row x)) (sym e) in
+    slice_get-map truth_row m i ∙ ap (option_map truth_row) (slice_get-get_or m i false (omega (arith, below, known.0)))
+    ∙ ap (λ (x : Bool). Some (truth_row x)) (sym e) in
     (truth_row b, (ap (λ (x : Content). slice_get (content_rows x t n) i) is ∙ here, ap (row_of t) f ∙ known.1))
 
 numbers_row : (a : NumberBytes) (l : WholeKind) (z : ℤ) (t : Term) (n : ℕ) → IsShaped (Numbers a) t n → (a.count ≡ n) × (row_of t (whole_value l z) ≡ Some (whole_row z))
@@ -115,10 +115,6 @@ pub numbers_value : (t : Term) (n i : ℕ) (c : Content) (a : NumberBytes) (l : 
 numbers_value t n i c a l z v is shape e f =
     let known = numbers_row a l z t n (subst (λ (x : Content). IsShaped x t n) is shape) in
     (whole_row z, (ap (λ (x : Content). slice_get (content_rows x t n) i) is ∙ e, ap (row_of t) f ∙ known.1))
-
-pub numbers_count : (t : Term) (n : ℕ) (c : Content) (a : NumberBytes) → c ≡ Numbers a → IsShaped c t n → a.count ≡ n
-numbers_count t n c a is shape =
-    (numbers_row a unsigned_8 (pos 0) t n (subst (λ (x : Content). IsShaped x t n) is shape)).0
 
 decimals_row : (a : NumberBytes) (w : DecimalValueType) (z : ℤ) (t : Term) (n : ℕ) → IsShaped (Decimals a) t n → (a.count ≡ n) × (row_of t (decimal_value w z) ≡ Some (whole_row z))
 decimals_row a w z null n h = absurd h
@@ -160,7 +156,7 @@ pub texts_value : (t : Term) (n i : ℕ) (c : Content) (a : TextBytes) (bs : Lis
 texts_value t n i c a bs v is shape e f =
     let known = texts_row a bs t n (subst (λ (x : Content). IsShaped x t n) is shape) in
     let here : slice_get (map bytes_row (text_pieces a)) i ≡ Some (bytes_row bs) =
-        slice_get-map bytes_row (text_pieces a) i ∙ ap (option_map bytes_row) e in
+    slice_get-map bytes_row (text_pieces a) i ∙ ap (option_map bytes_row) e in
     (bytes_row bs, (ap (λ (x : Content). slice_get (content_rows x t n) i) is ∙ here, by f known))
   where
     by : IsBytesValue bs v → (row_of t (bytes_value bs) ≡ Some (bytes_row bs)) × (row_of t (text_value bs) ≡ Some (bytes_row bs))
@@ -253,10 +249,6 @@ list_within t n i c p from to e h a b =
     let ends = ends_within 0 p.0 i from to known.offsets.rise a b in
     (ends.0, omega (arith, ends.1, known.offsets.within))
 
-pub list_place : (t : Term) (n i : ℕ) (c : Content) (p : List ℕ × Column) → lists_in c ≡ Some p → IsShaped c t n → i < n
-    → suc i < length p.0
-list_place t n i c p e h below = omega (arith, below, (lists_are n p c t e h).offsets.count)
-
 pub lists_value : (t : Term) (n i : ℕ) (c : Content) (p : List ℕ × Column) (from to : ℕ) (vs : List ValueTerm)
     (v : ValueTerm) → lists_in c ≡ Some p → IsShaped c t n → slice_get p.0 i ≡ Some from
     → slice_get p.0 (suc i) ≡ Some to → AreValuesOf p.1.dtype vs (slice_range p.1.rows from to)
@@ -265,10 +257,14 @@ lists_value t n i c p from to vs v e h a b all f =
     let known = lists_are n p c t e h in
     let rs = slice_range p.1.rows from to in
     let here : slice_get (list_rows p.0 p.1.rows) i ≡ Some (list_row (rows_from rs)) =
-        slice_get-map (λ rs. list_row (rows_from rs)) (pieces p.0 p.1.rows) i
-        ∙ ap (option_map (λ rs. list_row (rows_from rs))) (piece_there p.0 p.1.rows i from to a b) in
-    (list_row (rows_from rs), (ap (λ (l : List Row). slice_get l i) known.rows ∙ here,
-    ap (row_of t) f ∙ known.value vs rs all))
+    slice_get-map (λ rs. list_row (rows_from rs)) (pieces p.0 p.1.rows) i
+    ∙ ap (option_map (λ rs. list_row (rows_from rs))) (piece_there p.0 p.1.rows i from to a b) in (
+      list_row (rows_from rs),
+      (
+        ap (λ (l : List Row). slice_get l i) known.rows ∙ here,
+        ap (row_of t) f ∙ known.value vs rs all,
+      ),
+    )
 
 pub record Fixed (t : Term) (n : ℕ) (c : Content) (p : ℕ × Column) : Type 0 where
   pub count : length p.1.rows ≡ n * p.0
@@ -318,9 +314,13 @@ pub fixed_value : (t : Term) (n i : ℕ) (c : Content) (p : ℕ × Column) (vs :
     → IsRowAt c t n i v
 fixed_value t n i c p vs v e h below all f =
     let known = fixed_are n p c t e h in
-    let rs = slice_range p.1.rows (i * p.0) (i * p.0 + p.0) in
-    (list_row (rows_from rs), (ap (λ (l : List Row). slice_get l i) known.rows ∙ chunk_place p.0 n i p.1.rows below,
-    ap (row_of t) f ∙ known.value vs rs all))
+    let rs = slice_range p.1.rows (i * p.0) (i * p.0 + p.0) in (
+      list_row (rows_from rs),
+      (
+        ap (λ (l : List Row). slice_get l i) known.rows ∙ chunk_place p.0 n i p.1.rows below,
+        ap (row_of t) f ∙ known.value vs rs all,
+      ),
+    )
 
 -- ---- structs
 
@@ -379,10 +379,11 @@ fields_above t n i c cs e h below = above n i cs below (structs_are n cs c t e h
 struct_there : (n : ℕ) (cs : List (List Row)) (j : ℕ) → j < length (struct_rows n cs)
     → (rs : Rows) × (slice_get (struct_rows n cs) j ≡ Some (list_row rs))
 struct_there n cs j below =
-    let inside : j < length (inside_structs n cs) = subst (λ k. j < k) (length-map (inside_structs n cs) list_row) below in
-    (get_or (inside_structs n cs) j no_rows,
-    slice_get-map list_row (inside_structs n cs) j
-    ∙ ap (option_map list_row) (slice_get-get_or (inside_structs n cs) j no_rows inside))
+    let inside : j < length (inside_structs n cs) = subst (λ k. j < k) (length-map (inside_structs n cs) list_row) below in (
+      get_or (inside_structs n cs) j no_rows,
+      slice_get-map list_row (inside_structs n cs) j
+          ∙ ap (option_map list_row) (slice_get-get_or (inside_structs n cs) j no_rows inside),
+    )
 
 pub structs_value : (t : Term) (n i : ℕ) (c : Content) (cs : List Column) (vs : List ValueTerm) (v : ValueTerm)
     → fields_in c ≡ Some cs → IsShaped c t n → i < length (content_rows c t n) → AreValuesAt i cs vs
@@ -390,9 +391,13 @@ pub structs_value : (t : Term) (n i : ℕ) (c : Content) (cs : List Column) (vs 
 structs_value t n i c cs vs v e h below all f =
     let known = structs_are n cs c t e h in
     let long : i < length (struct_rows n (column_rows cs)) = subst (λ (l : List Row). i < length l) known.rows below in
-    let there = struct_there n (column_rows cs) i long in
-    (list_row there.0, (ap (λ (l : List Row). slice_get l i) known.rows ∙ there.1,
-    ap (row_of t) f ∙ known.value vs i there.0 all there.1))
+    let there = struct_there n (column_rows cs) i long in (
+      list_row there.0,
+      (
+        ap (λ (l : List Row). slice_get l i) known.rows ∙ there.1,
+        ap (row_of t) f ∙ known.value vs i there.0 all there.1,
+      ),
+    )
 
 -- ---- constants
 
@@ -403,9 +408,13 @@ some_is None h = absurd (cc)
 pub constant_value : (t : Term) (n i : ℕ) (c : Content) (x v : ValueTerm) → c ≡ Constant x → IsShaped c t n → i < n
     → v ≡ x → IsRowAt c t n i v
 constant_value t n i c x v is shape below e =
-    let fits : IsSome (fitting_row t x) = subst (λ (y : Content). IsShaped y t n) is shape in
-    (row_under t x, (ap (λ (y : Content). slice_get (content_rows y t n) i) is ∙ copies_at n i (row_under t x) below,
-    ap (row_of t) e ∙ some_is (row_of t x) (row_there t x fits)))
+    let fits : IsSome (fitting_row t x) = subst (λ (y : Content). IsShaped y t n) is shape in (
+      row_under t x,
+      (
+        ap (λ (y : Content). slice_get (content_rows y t n) i) is ∙ copies_at n i (row_under t x) below,
+        ap (row_of t) e ∙ some_is (row_of t x) (row_there t x fits),
+      ),
+    )
 
 -- ---- what an array knows of a place
 
@@ -468,7 +477,7 @@ lists_lighter p (Decimals a) n v e = absurd (none_some p e)
 lists_lighter p (Texts a) n v e = absurd (none_some p e)
 lists_lighter p (Lists os es) n v e =
     let is : array_node_count es.value.node ≡ array_node_count p.1.node =
-        ap (λ (q : List ℕ × Column). array_node_count q.1.node) (same (os, es.value) p e) in
+    ap (λ (q : List ℕ × Column). array_node_count q.1.node) (same (os, es.value) p e) in
     omega (arith, is)
 lists_lighter p (FixedLists j es) n v e = absurd (none_some p e)
 lists_lighter p (Structs fields) n v e = absurd (none_some p e)
@@ -491,7 +500,7 @@ fixed_lighter p (Texts a) n v e = absurd (none_some p e)
 fixed_lighter p (Lists os es) n v e = absurd (none_some p e)
 fixed_lighter p (FixedLists j es) n v e =
     let is : array_node_count es.value.node ≡ array_node_count p.1.node =
-        ap (λ (q : ℕ × Column). array_node_count q.1.node) (same (j, es.value) p e) in
+    ap (λ (q : ℕ × Column). array_node_count q.1.node) (same (j, es.value) p e) in
     omega (arith, is)
 fixed_lighter p (Structs fields) n v e = absurd (none_some p e)
 fixed_lighter p (Storage a) n v e = absurd (none_some p e)

@@ -1,22 +1,21 @@
 -- Values, and the rows inside structs and lists that they are.
-use Rattle.std.proofs.Common.{◌≡◌, ◌≤◌, ◌<◌, ◌+◌, ◌-◌, ◌*◌, ◌∙◌, ℕ, zero, suc, List, [], ◌∷◌, ◌++◌, Option, Some, None, true, false, Bool, map, length, replicate, take, drop, get_or, refl, sym, ap, subst, arith}
+use Rattle.std.proofs.Common.{◌≡◌, ◌≤◌, ◌<◌, ◌+◌, ◌-◌, ◌*◌, ◌∙◌, ℕ, zero, suc, List, [], ◌∷◌, ◌++◌, Option, Some, None, true, Bool, map, length, replicate, take, drop, get_or, refl, sym, ap, subst, arith}
 use Rattle.std.specs.Prelude.{slice_get, slice_range, if◌then◌else◌}
 use Rattle.std.specs.Option.{option_map, option_and_then}
 use Rattle.std.specs.List.{AllByRecursion}
 use Rattle.std.proofs.lemmas.Option.{slice_get-map, slice_get-get_or, get_or_from_slice_get, slice_get_within}
-use Rattle.std.proofs.lemmas.List.{length-replicate, get_or-replicate, length-drop, take_more, get_or-drop, drop-drop, length-map}
+use Rattle.std.proofs.lemmas.List.{length-drop, take_more, get_or-drop, drop-drop}
 use Rattle.vortex_terms.specs.Term.{Term, Fields, no_fields, field}
-use Rattle.vortex_terms.specs.Types.{types_of}
-use Rattle.vortex_terms.specs.Row.{Row, list_row, Rows, no_rows, row, rows_from, row_at}
+use Rattle.vortex_terms.specs.Row.{Row, list_row, Rows, no_rows, row, rows_from}
 use Rattle.vortex_terms.specs.Fits.{Fits}
 use Rattle.vortex_terms.specs.Tests.{is_fitting}
 use Rattle.vortex_terms.specs.TestLaws.{is_fitting-Decides}
-use Rattle.vortex_terms.specs.FromColumns.{zip_map, inside_structs, struct_rows}
+use Rattle.vortex_terms.specs.FromColumns.{inside_structs, struct_rows}
 use Rattle.vortex_node_rows.specs.Pieces.{chunks}
 use Rattle.vortex_scalar_value.specs.Value.{ValueTerm, values_from}
 use Rattle.vortex_value_rows.specs.RowOf.{row_of, rows_by, row_before, field_rows, fitting_row}
 use Rattle.vortex_array.specs.Column.{Column}
-use Rattle.vortex_array.specs.Content.{column_rows, IsColumn, AreFields}
+use Rattle.vortex_array.specs.Content.{column_rows, AreFields}
 use Rattle.vortex_array.proofs.PartRows.{zip_at, inside_struct}
 use Rattle.vortex_array.specs.ValuesAt.{AreValuesOf, AreValuesAt}
 
@@ -57,9 +56,6 @@ struct_value n fs cs vs j rs h k e =
     ap (option_map list_row) (inside_values n fs cs vs j rs h k (inside_struct n (column_rows cs) j rs e))
 
 -- ---- values side by side
-
-pub values_none : (j : ℕ) (cs : List Column) → AreValuesAt j (take 0 cs) []
-values_none j cs = tt
 
 one_more : (j k : ℕ) (cs : List Column) (vs : List ValueTerm) (c : Column) (v : ValueTerm)
     → AreValuesAt j (take k cs) vs → slice_get cs k ≡ Some c → row_of c.dtype v ≡ slice_get c.rows j
@@ -113,7 +109,7 @@ range_more xs a b x h e =
     let most : b - a < length (drop a xs) = omega (arith, h, within, length-drop a xs) in
     let place : a + (b - a) ≡ b = omega (arith, h) in
     let last : get_or (drop a xs) (b - a) x ≡ x =
-        get_or-drop a xs (b - a) x ∙ ap (λ k. get_or xs k x) place ∙ get_or_from_slice_get xs b x x e in
+    get_or-drop a xs (b - a) x ∙ ap (λ k. get_or xs k x) place ∙ get_or_from_slice_get xs b x x e in
     let more : (b - a) + 1 ≡ (b + 1) - a = omega (arith, h) in
     ap (λ y. take (b - a) (drop a xs) ++ y ∷ []) (sym last) ∙ sym (take_more (drop a xs) (b - a) x most)
     ∙ ap (λ k. take k (drop a xs)) more
@@ -121,13 +117,14 @@ range_more xs a b x h e =
 -- list i of those that have k elements each
 pub chunk_place : (k n i : ℕ) (xs : List Row) → i < n
     → slice_get (map (λ rs. list_row (rows_from rs)) (chunks k n xs)) i
-        ≡ Some (list_row (rows_from (slice_range xs (i * k) (i * k + k))))
+    ≡ Some (list_row (rows_from (slice_range xs (i * k) (i * k + k))))
 chunk_place k n i xs h =
     slice_get-map (λ rs. list_row (rows_from rs)) (chunks k n xs) i
     ∙ ap (option_map (λ rs. list_row (rows_from rs))) (at n i xs h ∙ ap (λ m. Some (take m (drop (i * k) xs))) few)
   where
     few : k ≡ i * k + k - i * k
     few = omega arith
+
     at : (n i : ℕ) (xs : List Row) → i < n → slice_get (chunks k n xs) i ≡ Some (take k (drop (i * k) xs))
     at zero i xs h = absurd (omega (arith, h))
     at (suc n) zero xs h =
@@ -156,9 +153,11 @@ value_fits t v (d ∷ rs) i h below e =
   where
     chosen : (b : Bool) (r : Row) → b ≡ true → (if b then Some r else None) ≡ Some r
     chosen b r h = rw h refl
+
     kept : (o : Option Row) (r : Row) → o ≡ Some r → Fits t r
         → option_and_then (λ r. if is_fitting t r then Some r else None) o ≡ Some r
     kept o r e f = rw e (chosen (is_fitting t r) r ((is_fitting-Decides t r).1 f))
+
     by : (r : Row) → Fits t r → row_of t v ≡ Some r → fitting_row t v ≡ Some r
     by r f e = kept (row_of t v) r e f
 

@@ -1,7 +1,7 @@
 -- Values that are rows of columns.
 --     AreValuesOf     each is the row at its place
 --     AreValuesAt     of columns side by side, each is the row at one place
-use Rattle.std.specs.Prelude.{◌≡◌, ℕ, List, [], ◌∷◌, Option, Some, slice_get}
+use Rattle.std.specs.Prelude.{◌≡◌, ℕ, List, [], ◌∷◌, Some, slice_get}
 use Rattle.vortex_terms.specs.Term.{Term}
 use Rattle.vortex_terms.specs.Row.{Row}
 use Rattle.vortex_scalar_value.specs.Value.{ValueTerm}

@@ -1,4 +1,4 @@
-use Rattle.std.proofs.Common.{rules, ◌≡◌, ◌≤◌, ◌<◌, ◌+◌, ◌-◌, ◌*◌, ◌∙◌, suc, ℤ, List, [], ◌∷◌, Bool, true, false, Some, None, take, inl, inr, length, get_or, refl, sym, ap, subst, arith}
+use Rattle.std.proofs.Common.{rules, ◌≡◌, ◌<◌, ◌+◌, ◌-◌, ◌*◌, ◌∙◌, ℤ, List, [], ◌∷◌, true, false, Some, take, inl, inr, length, refl, sym, ap, subst, arith}
 use Rattle.std.specs.Prelude.{slice_get, slice_range}
 use Rattle.std.proofs.lemmas.Option.{slice_get_read}
 use Rattle.std.proofs.lemmas.List.{take_all}
@@ -8,16 +8,15 @@ use mir.Val.{SFits}
 use Rattle.vortex_names.specs.Nullable.{is_nullable}
 use Rattle.vortex_number.specs.WholeKind.{whole_kind}
 use Rattle.vortex_value.specs.PValue.{kind_of, number_of}
-use Rattle.vortex_value.specs.DecimalValue.{width_of, decimal_number}
-use Rattle.vortex_terms.specs.Row.{Row, whole_row}
+use Rattle.vortex_terms.specs.Row.{whole_row}
 use Rattle.vortex_types.specs.DTypes.{term_of}
 use Rattle.vortex_scalar_value.specs.Value.{ValueTerm, bytes_value, text_value, list_value, values_from}
 use Rattle.vortex_value_rows.specs.RowOf.{row_of}
 use Rattle.vortex_array.specs.Column.{Column}
 use Rattle.vortex_array.specs.ValuesAt.{AreValuesOf, AreValuesAt}
 use Rattle.vortex_array.proofs.HeldParts.{fields_in}
-use Rattle.vortex_array.proofs.ValueRows.{values_none, values_more, range_none, range_step, fits_at}
-use Rattle.vortex_array.proofs.HeldValues.{shown_value, hidden_value, nulls_value, truths_value, numbers_value, numbers_count, decimals_value, texts_value, lists_in, fixed_in, list_within, list_place, lists_value, fixed_within, fixed_value, fields_above, structs_value, constant_value, place_below, content_below, number_fits, text_fits, ok_then, list_lighter, fixed_list_lighter, struct_lighter, field_lighter, columns_count}
+use Rattle.vortex_array.proofs.ValueRows.{values_more, range_none, range_step, fits_at}
+use Rattle.vortex_array.proofs.HeldValues.{shown_value, hidden_value, nulls_value, truths_value, numbers_value, decimals_value, texts_value, lists_in, fixed_in, list_within, lists_value, fixed_within, fixed_value, fields_above, structs_value, constant_value, place_below, content_below, number_fits, text_fits, ok_then, list_lighter, fixed_list_lighter, struct_lighter, field_lighter}
 use Rattle.vortex_array.proofs.held.Array.+valued.Goals as goal
 
 pub field_values-loop-field-init : goal.field_values-loop-field-init
@@ -35,10 +34,11 @@ field_values-loop-field-preserved t c =
 pub field_values-row_value-requires : goal.field_values-row_value-requires
 field_values-row_value-requires t c =
     let here = slice_get_read c.args.fields.now (length c.args.fields.now) c.loop-field.field-index c.field-item.result
-        refl c.loop-field-test.true c.field-item.is in
-    (omega (arith, c.decreases, field_lighter c.args.fields.now c.loop-field.field-index c.field-item.result here),
-    fits_at (λ (f : Column). c.args.i < length f.rows) c.args.fields.now c.loop-field.field-index c.field-item.result
-    c.requires here)
+    refl c.loop-field-test.true c.field-item.is in (
+      omega (arith, c.decreases, field_lighter c.args.fields.now c.loop-field.field-index c.field-item.result here),
+      fits_at (λ (f : Column). c.args.i < length f.rows) c.args.fields.now c.loop-field.field-index c.field-item.result
+          c.requires here,
+    )
 
 pub field_values-returns-clause-values : goal.field_values-returns-clause-values
 field_values-returns-clause-values t c =
@@ -92,22 +92,24 @@ pub row_value-values_between-requires : goal.row_value-values_between-requires
 row_value-values_between-requires t c =
     let is = (ap lists_in c.in-Lists.is ∙ ap (λ (e : Column). Some (c.in-Lists.offsets, e)) (sym c.deref.ensures)) in
     let within = list_within (term_of c.self.inside.dtype) c.self.inside.len c.args.i c.self.inside.held.content (c.in-Lists.offsets, c.deref.result.now) c.bounds-from.result.0 c.bounds-from.result.1 is c.self.invariant.shape
-        c.bounds-from.ensures.from c.bounds-from.ensures.to in
+    c.bounds-from.ensures.from c.bounds-from.ensures.to in
     (omega (arith, c.decreases, list_lighter c.self.inside c.args.self.now (c.in-Lists.offsets, c.deref.result.now) c.self.view_is is), (within.0, within.1))
 
 pub row_value-values_between-requires-in-FixedLists : goal.row_value-values_between-requires-in-FixedLists
 row_value-values_between-requires-in-FixedLists t c =
     let is = (ap fixed_in c.in-FixedLists.is ∙ ap (λ (e : Column). Some (c.in-FixedLists.size, e)) (sym c.deref-in-FixedLists.ensures)) in
-    let within = fixed_within (term_of c.self.inside.dtype) c.self.inside.len c.args.i c.self.inside.held.content (c.in-FixedLists.size, c.deref-in-FixedLists.result.now) is c.self.invariant.shape (place_below c.self.inside c.args.self.now c.args.i c.self.invariant c.self.view_is c.requires) in
-    (omega (arith, c.decreases, fixed_list_lighter c.self.inside c.args.self.now (c.in-FixedLists.size, c.deref-in-FixedLists.result.now) c.self.view_is is),
-    (omega arith, within))
+    let within = fixed_within (term_of c.self.inside.dtype) c.self.inside.len c.args.i c.self.inside.held.content (c.in-FixedLists.size, c.deref-in-FixedLists.result.now) is c.self.invariant.shape (place_below c.self.inside c.args.self.now c.args.i c.self.invariant c.self.view_is c.requires) in (
+      omega (arith, c.decreases, fixed_list_lighter c.self.inside c.args.self.now (c.in-FixedLists.size, c.deref-in-FixedLists.result.now) c.self.view_is is),
+      (omega arith, within),
+    )
 
 pub row_value-field_values-requires : goal.row_value-field_values-requires
 row_value-field_values-requires t c =
-    let is = (ap fields_in c.in-Structs.is ∙ ap Some (sym c.deref-in-Structs.ensures.value)) in
-    (omega (arith, c.decreases, struct_lighter c.self.inside c.args.self.now c.deref-in-Structs.result.now c.self.view_is is),
-    fields_above (term_of c.self.inside.dtype) c.self.inside.len c.args.i c.self.inside.held.content c.deref-in-Structs.result.now is c.self.invariant.shape
-    (place_below c.self.inside c.args.self.now c.args.i c.self.invariant c.self.view_is c.requires))
+    let is = (ap fields_in c.in-Structs.is ∙ ap Some (sym c.deref-in-Structs.ensures.value)) in (
+      omega (arith, c.decreases, struct_lighter c.self.inside c.args.self.now c.deref-in-Structs.result.now c.self.view_is is),
+      fields_above (term_of c.self.inside.dtype) c.self.inside.len c.args.i c.self.inside.held.content c.deref-in-Structs.result.now is c.self.invariant.shape
+          (place_below c.self.inside c.args.self.now c.args.i c.self.invariant c.self.view_is c.requires),
+    )
 
 pub row_value-returns-in-Nulls-clause-value : goal.row_value-returns-in-Nulls-clause-value
 row_value-returns-in-Nulls-clause-value t c =
@@ -149,15 +151,15 @@ row_value-returns-in-Utf8-clause-value t c =
 
 pub row_value-returns-in_default-dtype : goal.row_value-returns-in_default-dtype
 row_value-returns-in_default-dtype t c =
-  record {
-    value =
-    ok_then c.bytes_value.result (λ (v : ValueTerm). v ≡ bytes_value c.piece-in_default-dtype.result.now) (λ (v : ValueTerm). row_of c.args.self.now.dtype v ≡ slice_get c.args.self.now.rows c.args.i)
-    c.bytes_value.ensures.value (λ (v : ValueTerm) e.
-    shown_value c.self.inside c.args.self.now c.args.i v c.self.invariant c.self.view_is c.requires
-    (sym c.if-not-is_unmasked.ensures) (texts_value (term_of c.self.inside.dtype) c.self.inside.len c.args.i c.self.inside.held.content c.in-Texts.texts c.piece-in_default-dtype.result.now v c.in-Texts.is c.self.invariant.shape
-    c.piece-in_default-dtype.ensures (inl e)));
-    memory = c.bytes_value.ensures.memory;
-  }
+    record {
+      value =
+          ok_then c.bytes_value.result (λ (v : ValueTerm). v ≡ bytes_value c.piece-in_default-dtype.result.now) (λ (v : ValueTerm). row_of c.args.self.now.dtype v ≡ slice_get c.args.self.now.rows c.args.i)
+          c.bytes_value.ensures.value (λ (v : ValueTerm) e.
+          shown_value c.self.inside c.args.self.now c.args.i v c.self.invariant c.self.view_is c.requires
+          (sym c.if-not-is_unmasked.ensures) (texts_value (term_of c.self.inside.dtype) c.self.inside.len c.args.i c.self.inside.held.content c.in-Texts.texts c.piece-in_default-dtype.result.now v c.in-Texts.is c.self.invariant.shape
+          c.piece-in_default-dtype.ensures (inl e)));
+      memory = c.bytes_value.ensures.memory;
+    }
 
 pub row_value-returns-in_ok-values-in-Lists-clause-value : goal.row_value-returns-in_ok-values-in-Lists-clause-value
 row_value-returns-in_ok-values-in-Lists-clause-value t c =
@@ -194,4 +196,3 @@ row_value-returns-in-Constant-clause-value t c =
     shown_value c.self.inside c.args.self.now c.args.i v c.self.invariant c.self.view_is c.requires
     (sym c.if-not-is_unmasked.ensures) (constant_value (term_of c.self.inside.dtype) c.self.inside.len c.args.i c.self.inside.held.content c.in-Constant.value v c.in-Constant.is c.self.invariant.shape
     (place_below c.self.inside c.args.self.now c.args.i c.self.invariant c.self.view_is c.requires) e))
-
