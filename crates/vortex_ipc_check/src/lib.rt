@@ -3,6 +3,8 @@
 
 mod laws;
 #[cfg(test)]
+mod array_tests;
+#[cfg(test)]
 mod tests;
 
 pub use laws::headers_are_worked;
