@@ -22,13 +22,17 @@ pub record BufReaderState : Type 0 where
 abbrev pub FailsOn : List (List ℕ) → Option MessageKind → List ℕ → IpcError → Type 0
 FailsOn held wanted bytes error.UnexpectedEnd = IsCut held wanted bytes
 FailsOn held wanted bytes error.OutOfMemory = ⊤
-FailsOn held wanted bytes error.MalformedHeader = Decodes held wanted bytes (refused error.MalformedHeader)
+FailsOn held wanted bytes error.MalformedHeader =
+    Decodes held wanted bytes (refused error.MalformedHeader)
 FailsOn held wanted bytes (error.WrongKind kind) =
     Decodes held wanted bytes (refused (error.WrongKind kind))
-FailsOn held wanted bytes error.MalformedDType = Decodes held wanted bytes (refused error.MalformedDType)
+FailsOn held wanted bytes error.MalformedDType =
+    Decodes held wanted bytes (refused error.MalformedDType)
 FailsOn held wanted bytes error.Failed = ⊥
-FailsOn held wanted bytes error.UnknownEncoding = Decodes held wanted bytes (refused error.UnknownEncoding)
-FailsOn held wanted bytes error.MalformedArray = Decodes held wanted bytes (refused error.MalformedArray)
+FailsOn held wanted bytes error.UnknownEncoding =
+    Decodes held wanted bytes (refused error.UnknownEncoding)
+FailsOn held wanted bytes error.MalformedArray =
+    Decodes held wanted bytes (refused error.MalformedArray)
 FailsOn held wanted bytes error.ReadFault = ⊥
 FailsOn held wanted bytes error.ReadLimit = ⊥
 FailsOn held wanted bytes error.WriteFault = ⊥
@@ -92,7 +96,8 @@ ToldEnd call left = (call.ends ≡ 1) × (call.faults ≡ 0) × IsAtEnd left
 -- many reads were made as may be, and more bytes are needed; memory ran out; or by the first flaw of
 -- the message.
 abbrev pub FailsIn
-    : List (List ℕ) → Option MessageKind → ℕ → SourceCounts → List ℕ → Option (List ℕ) → IpcError → Type 0
+    : List (List ℕ) → Option MessageKind → ℕ → SourceCounts → List ℕ → Option (List ℕ) → IpcError
+    → Type 0
 FailsIn held wanted most call taken left error.UnexpectedEnd =
     ToldEnd call left × (0 < length taken) × IsCut held wanted taken
 FailsIn held wanted most call taken left error.ReadFault =
@@ -122,13 +127,15 @@ abbrev pub AnswersIn
 AnswersIn held wanted most call taken left None = ToldEnd call left × (taken ≡ [])
 AnswersIn held wanted most call taken left (Some (Ok message)) =
     AllGave call × Decodes held wanted taken (found (message_of message) [])
-AnswersIn held wanted most call taken left (Some (Err e)) = FailsIn held wanted most call taken left e
+AnswersIn held wanted most call taken left (Some (Err e)) =
+    FailsIn held wanted most call taken left e
 
 -- One call made so many reads at most, and no more than it was given bytes, an end or a fault. By
 -- itself it counts so, was given these bytes, and answered so. It took none that its answer does not
 -- need: each shorter front of them is cut.
-pub record ReadsMessage (held : List (List ℕ)) (wanted : Option MessageKind) (most : ℕ) (before after : SourceCounts)
-    (rest left : Option (List ℕ)) (answer : Option (Result DecoderMessage IpcError)) : Type 0 where
+pub record ReadsMessage (held : List (List ℕ)) (wanted : Option MessageKind) (most : ℕ)
+    (before after : SourceCounts) (rest left : Option (List ℕ))
+    (answer : Option (Result DecoderMessage IpcError)) : Type 0 where
   pub call : SourceCounts
   pub taken : List ℕ
   pub counted : after ≡ raised_by before call

@@ -11,11 +11,11 @@ use std::alloc::{AllocError, Global};
 use vortex_array::ArrayContext;
 use vortex_encodings::ArrayRegistry;
 use vortex_flat::{FlatError, Table, Vector, root};
-use vortex_stream::{IpcError, MessageKind};
 use vortex_stream::schema::{
     ARRAY, ARRAY_NAMES, ARRAY_ROWS, BUFFER, BUFFER_ALIGNMENT, DTYPE, MESSAGE_BODY_SIZE,
     MESSAGE_INNER, MESSAGE_KIND, MESSAGE_VERSION, MOST_NAMES, VERSION,
 };
+use vortex_stream::{IpcError, MessageKind};
 
 /// What table `Message` of a header says.
 #[derive(Drop)]
@@ -107,11 +107,7 @@ fn array_head(inner: &Table, registry: ArrayRegistry) -> Result<ContentHead, Fla
 
 /// What a message of a kind holds, as the table of the kind tells.
 #[tactic(auto, using(crate::proofs::HeadLemmas::array_is, crate::proofs::HeadLemmas::buffer_is, crate::proofs::HeadLemmas::type_is, crate::proofs::HeadLemmas::none_is))]
-fn content_of(
-    kind: u8,
-    inner: &Table,
-    registry: ArrayRegistry,
-) -> Result<ContentHead, FlatError>
+fn content_of(kind: u8, inner: &Table, registry: ArrayRegistry) -> Result<ContentHead, FlatError>
     ensures { Answers (λ x. x) result (option_map (content_head (names_of registry))
         (content_at inner.now.buffer inner.now.place kind)) }
 {

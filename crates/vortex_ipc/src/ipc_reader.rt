@@ -90,7 +90,10 @@ impl<S: Source + Drop> SyncIPCReader<S> {
             (S.rest self.new.source) result }
         ensures dtype { self.new.dtype ≡ self.old.dtype }
     {
-        match self.state.next_of(alloc, &mut self.source, MessageKind::Array) {
+        match self
+            .state
+            .next_of(alloc, &mut self.source, MessageKind::Array)
+        {
             Some(Ok(DecoderMessage::Array((parts, names, rows)))) => {
                 match array_of(alloc, &parts, &names, &self.dtype, rows) {
                     Ok(array) => Some(Ok(array)),

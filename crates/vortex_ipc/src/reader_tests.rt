@@ -190,7 +190,10 @@ fn of_a_long_body(alloc: Global, max_reads: u64) -> Result<Answers, IpcError> {
 fn reads_of_a_long_body(rt: HostRuntime) {
     let limit = Some(Read::Failed(IpcError::ReadLimit));
     let long = Some(Read::Buffer(200_000));
-    assert_eq!(rt; of_a_long_body(rt.alloc(), 6), Ok(([long, limit], 6, 200_068)));
+    assert_eq!(rt;
+        of_a_long_body(rt.alloc(), 6),
+        Ok(([long, limit], 6, 200_068))
+    );
     let short = Ok(([limit, None], 5, 68 + 3 * 65_536));
     assert_eq!(rt; of_a_long_body(rt.alloc(), 5), short);
 }

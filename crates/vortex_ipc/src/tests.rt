@@ -144,7 +144,10 @@ fn two_messages_in_one_piece(rt: HostRuntime) {
     let found = Some(MessageKind::Buffer);
     let other = Read::Failed(IpcError::WrongKind { found });
     let failed = Read::Failed(IpcError::Failed);
-    assert_eq!(rt; two_messages(rt.alloc()), Ok([Read::Buffer(3), other, failed]));
+    assert_eq!(rt;
+        two_messages(rt.alloc()),
+        Ok([Read::Buffer(3), other, failed])
+    );
 }
 
 /// The message of a type that has 64 bits and a sign, and is never null.

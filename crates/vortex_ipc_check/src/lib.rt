@@ -1,9 +1,9 @@
 //! Tests of where the bodies of messages lie, and what header bytes are.
 #![tactic(auto)]
 
-mod laws;
 #[cfg(test)]
 mod array_tests;
+mod laws;
 #[cfg(test)]
 mod tests;
 
