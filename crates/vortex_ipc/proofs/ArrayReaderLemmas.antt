@@ -17,7 +17,7 @@ use Rattle.vortex_stream.specs.declared.error.IpcError.TheVariants as error
 use Rattle.vortex_ipc.specs.declared.message.DecoderMessage.{DecoderMessage}
 use Rattle.vortex_ipc.specs.declared.message.DecoderMessage.TheVariants as messages
 use Rattle.vortex_ipc.specs.Message.{Message, StandsFor, array_message, buffer_message, type_message, message_of}
-use Rattle.vortex_ipc.specs.Decoding.{HasMessage, is_answered}
+use Rattle.vortex_ipc.specs.Decoding.{is_answered}
 use Rattle.vortex_ipc.specs.Reader.{ReaderState, SourceReads, is_done, started}
 use Rattle.vortex_ipc.specs.ArrayReader.{FailsToOpen, Opens, ReadsArray, with_done}
 

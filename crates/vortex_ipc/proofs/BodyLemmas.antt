@@ -1,14 +1,13 @@
 -- What a body stands for under the header that was kept.
 use Rattle.std.proofs.Common.{◌≡◌, ℕ, List, Option, Some, None, refl, sym, ap, subst, ◌∙◌}
 use Rattle.std.specs.Prelude.{IsSome}
-use Rattle.vortex_prelude.specs.Chain.{◌>>=◌}
 use Rattle.vortex_buffer.specs.Buffer.{Buffer}
 use Rattle.vortex_schema.specs.TypeAt.{IsTypeIn}
 use Rattle.vortex_types.specs.declared.dtype.DType.{DType}
 use Rattle.vortex_dtype.specs.DTypes.{term_of}
 use Rattle.vortex_body.specs.Node.{Node}
 use Rattle.vortex_body.specs.Reading.{node_of}
-use Rattle.vortex_stream.specs.Header.{Content, Header, array_content, buffer_content, type_content, header_of, kind_of}
+use Rattle.vortex_stream.specs.Header.{Content, Header, array_content, type_content, header_of, kind_of}
 use Rattle.vortex_stream.specs.declared.kind.MessageKind.TheVariants as kinds
 use Rattle.vortex_ipc.specs.declared.header.ContentHead.{ContentHead}
 use Rattle.vortex_ipc.specs.declared.message.DecoderMessage.TheVariants as messages
