@@ -96,6 +96,7 @@ fn decode_queue(alloc: Global, decoding: &mut Decoding) -> Result<usize, IpcErro
 
 fn message_text(alloc: Global, message: &DecoderMessage) -> Result<String, AllocError> {
     match message {
+        DecoderMessage::Array(array) => format!(in alloc; "array:{}", array.2),
         DecoderMessage::Buffer(buffer) => {
             let bytes = word_of(alloc, buffer.as_slice())?;
             format!(in alloc; "buffer:{}:{bytes}", buffer.alignment().exponent())

@@ -105,18 +105,18 @@ no_more there more front rest le e =
     nil_from_length rest (omega (arith, le, len))
 
 -- where no more was added than a part was missing, nothing is behind the message
-pub exact : (wanted : Option MessageKind) (bytes there more : List ℕ) (size : ℕ) (message : Message) (rest : List ℕ) → NeedsMore wanted bytes size there → length (there ++ more) ≤ size → HasMessage wanted (bytes ++ more) message rest → rest ≡ []
-exact wanted bytes there more size message rest (inl n) le m =
+pub exact : (held : List (List ℕ)) (wanted : Option MessageKind) (bytes there more : List ℕ) (size : ℕ) (message : Message) (rest : List ℕ) → NeedsMore held wanted bytes size there → length (there ++ more) ≤ size → HasMessage held wanted (bytes ++ more) message rest → rest ≡ []
+exact held wanted bytes there more size message rest (inl n) le m =
     let h = message_header (bytes ++ more) m.0 m.1 rest m.2 in
     let parts : there ++ more ≡ h.begins.prefix ++ (h.header ++ (m.1 ++ rest)) = subst (λ (l : List ℕ). l ++ more ≡ h.begins.prefix ++ (h.header ++ (m.1 ++ rest))) n.0 h.begins.parts in
     let len = ap length parts ∙ length-append h.begins.prefix (h.header ++ (m.1 ++ rest)) in
     nil_from_length rest (omega (arith, le, len, n.1, h.begins.prefix_len, length-append h.header (m.1 ++ rest), length-append m.1 rest))
-exact wanted bytes there more size message rest (inr (inl n)) le m =
+exact held wanted bytes there more size message rest (inr (inl n)) le m =
     let h = message_header (bytes ++ more) m.0 m.1 rest m.2 in
     let s = one_length (bytes ++ more) size (length h.header) (there ++ more) (h.header ++ (m.1 ++ rest)) (length_append bytes size there more n.0) h.begins in
     let len = ap length s.rest_is ∙ length-append h.header (m.1 ++ rest) in
     nil_from_length rest (omega (arith, le, len, s.size_is, length-append m.1 rest))
-exact wanted bytes there more size message rest (inr (inr n)) le m =
+exact held wanted bytes there more size message rest (inr (inr n)) le m =
     let h = message_header (bytes ++ more) m.0 m.1 rest m.2 in
     let s = one_header (bytes ++ more) n.0 m.0 size (length m.1) (there ++ more) (m.1 ++ rest) (header_append bytes n.0 size there more n.1) h in
     let len = ap length s.rest_is ∙ length-append m.1 rest in

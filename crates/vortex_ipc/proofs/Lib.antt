@@ -12,3 +12,6 @@ pub mod BufLemmas
 pub mod States
 pub mod RunLemmas
 pub mod GoneLemmas
+pub mod Contents
+pub mod BodyLemmas
+pub mod ArrayReaderLemmas

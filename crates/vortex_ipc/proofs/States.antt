@@ -22,10 +22,10 @@ gives : (call given ends faults : ℕ) → call ≤ given + ends + faults → en
 gives call given ends faults le e f = omega (arith, le, e, f)
 
 -- a limit that was reached
-at_limit : (wanted : Option MessageKind) (old : ReaderState) (before after : SourceCounts) (rest left : Option (List ℕ)) (answer : Option (Result DecoderMessage IpcError)) (m : ReadsMessage wanted (old.most - old.reads) before after rest left answer)
+at_limit : (wanted : Option MessageKind) (old : ReaderState) (before after : SourceCounts) (rest left : Option (List ℕ)) (answer : Option (Result DecoderMessage IpcError)) (m : ReadsMessage old.held wanted (old.most - old.reads) before after rest left answer)
     → old.reads ≤ old.most → old.reads ≤ old.given → old.most < 2 ^ 64 → answer ≡ Some (Err error.ReadLimit) → (old.reads + m.call.reads ≡ old.most) × (old.most ≤ raised_128 old.given m.call.given)
 at_limit wanted old before after rest left answer m within le few e =
-    let a = subst (AnswersIn wanted (old.most - old.reads) m.call m.taken left) e m.answers in
+    let a = subst (AnswersIn old.held wanted (old.most - old.reads) m.call m.taken left) e m.answers in
     let all : m.call.reads ≡ old.most - old.reads = a.1 in
     let each : m.call.reads ≤ m.call.given = gives m.call.reads m.call.given m.call.ends m.call.faults m.each_gives a.0.0 a.0.1 in
     (limit_all old.reads old.most m.call.reads within all, limit_given old.reads old.given old.most m.call.reads m.call.given le within few all each)
@@ -36,12 +36,12 @@ within_most old most call le few = omega (arith, le, few)
 -- ---- one call
 
 -- it read on
-pub goes_on : (wanted : Option MessageKind) (old new : ReaderState) (before after : SourceCounts) (rest left : Option (List ℕ)) (t : Taken) → old.done ≡ false → old.reads ≤ old.most → old.reads ≤ old.given → old.most < 2 ^ 64 → Came wanted (old.most - old.reads) before after rest left t
-    → new ≡ record { done = is_done t.answer; reads = old.reads + t.reads; given = raised_128 old.given t.given; most = old.most } → SourceReads wanted old new before after rest left t.answer
+pub goes_on : (wanted : Option MessageKind) (old new : ReaderState) (before after : SourceCounts) (rest left : Option (List ℕ)) (t : Taken) → old.done ≡ false → old.reads ≤ old.most → old.reads ≤ old.given → old.most < 2 ^ 64 → Came old.held wanted (old.most - old.reads) before after rest left t
+    → new ≡ record { held = old.held; done = is_done t.answer; reads = old.reads + t.reads; given = raised_128 old.given t.given; most = old.most } → SourceReads wanted old new before after rest left t.answer
 goes_on wanted old new before after rest left t going within le few c e =
     let reads : t.reads ≡ c.message.call.reads = sym c.reads_are in
     let given : t.given ≡ c.message.call.given = sym c.given_are in
-    let state : new ≡ after_call old c.message.call t.answer = e ∙ ap (λ n. record { done = is_done t.answer; reads = old.reads + n; given = raised_128 old.given t.given; most = old.most }) reads ∙ ap (λ n. record { done = is_done t.answer; reads = old.reads + c.message.call.reads; given = raised_128 old.given n; most = old.most }) given in
+    let state : new ≡ after_call old c.message.call t.answer = e ∙ ap (λ n. record { held = old.held; done = is_done t.answer; reads = old.reads + n; given = raised_128 old.given t.given; most = old.most }) reads ∙ ap (λ n. record { held = old.held; done = is_done t.answer; reads = old.reads + c.message.call.reads; given = raised_128 old.given n; most = old.most }) given in
     inr (subst (λ (s : ReaderState). GoesOn wanted old s before after rest left t.answer) (sym state) (record {
       going = going;
       message = c.message;
@@ -55,26 +55,26 @@ pub stays_done : (wanted : Option MessageKind) (old new : ReaderState) (before a
 stays_done wanted old new before after rest left done same counts kept = inl (record { done = done; none = refl; state = same; counts = counts; kept = kept })
 
 -- no more reads than may be
-pub still_within : (wanted : Option MessageKind) (reads most : ℕ) (before after : SourceCounts) (rest left : Option (List ℕ)) (t : Taken) → reads ≤ most → Came wanted (most - reads) before after rest left t → reads + t.reads ≤ most
-still_within wanted reads most before after rest left t within c = within_most reads most t.reads within (subst (λ n. n ≤ most - reads) c.reads_are c.message.few)
+pub still_within : (held : List (List ℕ)) (wanted : Option MessageKind) (reads most : ℕ) (before after : SourceCounts) (rest left : Option (List ℕ)) (t : Taken) → reads ≤ most → Came held wanted (most - reads) before after rest left t → reads + t.reads ≤ most
+still_within held wanted reads most before after rest left t within c = within_most reads most t.reads within (subst (λ n. n ≤ most - reads) c.reads_are c.message.few)
 
 raised_gives : (reads given call more : ℕ) → reads ≤ given → call ≤ more → reads + call < 2 ^ 64 → reads + call ≤ raised_128 given more
 raised_gives reads given call more le each few = omega (arith, le, each, few)
 
-all_gave : (wanted : Option MessageKind) (most : ℕ) (call : SourceCounts) (taken : List ℕ) (left : Option (List ℕ)) (answer : Option (Result DecoderMessage IpcError)) → is_done answer ≡ false → AnswersIn wanted most call taken left answer → AllGave call
-all_gave wanted most call taken left None done a = absurd (not_done done)
+all_gave : (held : List (List ℕ)) (wanted : Option MessageKind) (most : ℕ) (call : SourceCounts) (taken : List ℕ) (left : Option (List ℕ)) (answer : Option (Result DecoderMessage IpcError)) → is_done answer ≡ false → AnswersIn held wanted most call taken left answer → AllGave call
+all_gave held wanted most call taken left None done a = absurd (not_done done)
   where
     not_done : true ≡ false → ⊥
     not_done e = cc
-all_gave wanted most call taken left (Some (Ok m)) done a = a.0
-all_gave wanted most call taken left (Some (Err e)) done a = absurd (not_done done)
+all_gave held wanted most call taken left (Some (Ok m)) done a = a.0
+all_gave held wanted most call taken left (Some (Err e)) done a = absurd (not_done done)
   where
     not_done : true ≡ false → ⊥
     not_done e = cc
 
 -- each read so far gave a byte
-pub still_gives : (wanted : Option MessageKind) (reads given most : ℕ) (before after : SourceCounts) (rest left : Option (List ℕ)) (t : Taken) → reads ≤ given → reads + t.reads < 2 ^ 64 → Came wanted most before after rest left t → is_done t.answer ≡ false → reads + t.reads ≤ raised_128 given t.given
-still_gives wanted reads given most before after rest left t le few c done =
-    let g = all_gave wanted most c.message.call c.message.taken left t.answer done c.message.answers in
+pub still_gives : (held : List (List ℕ)) (wanted : Option MessageKind) (reads given most : ℕ) (before after : SourceCounts) (rest left : Option (List ℕ)) (t : Taken) → reads ≤ given → reads + t.reads < 2 ^ 64 → Came held wanted most before after rest left t → is_done t.answer ≡ false → reads + t.reads ≤ raised_128 given t.given
+still_gives held wanted reads given most before after rest left t le few c done =
+    let g = all_gave held wanted most c.message.call c.message.taken left t.answer done c.message.answers in
     let each = gives c.message.call.reads c.message.call.given c.message.call.ends c.message.call.faults c.message.each_gives g.0 g.1 in
     raised_gives reads given t.reads t.given le (omega (arith, each, c.reads_are, c.given_are)) few

@@ -16,10 +16,11 @@ IsSettled (refused e) = ⊤
 IsSettled (found message rest) = ⊤
 
 -- the bytes are these messages, one after another, of whatever kind, and then come to this
-abbrev pub DecodesAll : List ℕ → List Message → Outcome → Type 0
-DecodesAll bytes [] end = Decodes None bytes end
-DecodesAll bytes (message ∷ messages) end =
-    (rest : List ℕ) × Decodes None bytes (found message rest) × DecodesAll rest messages end
+abbrev pub DecodesAll : List (List ℕ) → List ℕ → List Message → Outcome → Type 0
+DecodesAll held bytes [] end = Decodes held None bytes end
+DecodesAll held bytes (message ∷ messages) end =
+    (rest : List ℕ) × Decodes held None bytes (found message rest)
+    × DecodesAll held rest messages end
 
 -- whether no message is left: more bytes are needed, or what stands there is refused
 abbrev pub IsLast : Outcome → Type 0

@@ -3,6 +3,7 @@ pub mod Queue
 pub mod Decoding
 pub mod Decoder
 pub mod Reader
+pub mod ArrayReader
 pub mod Cutting
 pub mod Encoding
 pub mod Runs

@@ -1,6 +1,7 @@
 //! Messages that are read from bytes in hand.
 
 ghost use Rattle.std.specs.Prelude.{◌≡◌, false, MatchResult};
+ghost use Rattle.vortex_encodings.specs.Encodings.{names_of};
 ghost use Rattle.vortex_ipc.specs.Reader.{BufReads};
 
 use crate::decoder::MessageDecoder;
@@ -12,8 +13,8 @@ use vortex_buffer::ByteBuffer;
 use vortex_encodings::ArrayRegistry;
 use vortex_stream::IpcError;
 
-/// A reader of the messages that stand in a buffer. Contracts see the bytes that are left, and
-/// whether it is done.
+/// A reader of the messages that stand in a buffer. Contracts see the names of the encodings that it
+/// holds, the bytes that are left, and whether it is done.
 #[derive(Drop)]
 pub struct BufMessageReader {
     decoder: MessageDecoder,
@@ -28,9 +29,9 @@ impl Model for BufMessageReader {
 
     ghost Value = { BufReaderState };
 
-    ghost view = { λ r. record { rest = r.bytes; done = r.done } };
+    ghost view = { λ r. record { held = r.decoder.held; rest = r.bytes; done = r.done } };
 
-    ghost invariant = { λ r. r.done ≡ false → r.decoder ≡ fresh };
+    ghost invariant = { λ r. r.done ≡ false → r.decoder ≡ fresh r.decoder.held };
 }
 
 impl BufMessageReader {
@@ -41,7 +42,7 @@ impl BufMessageReader {
         registry: ArrayRegistry,
     ) -> Result<BufMessageReader, IpcError>
         ensures { MatchResult result
-            (λ r. r ≡ record { rest = buffer.bytes; done = false })
+            (λ r. r ≡ record { held = names_of registry; rest = buffer.bytes; done = false })
             (λ e. e ≡ IpcError.OutOfMemory) }
     {
         Ok(BufMessageReader {
@@ -54,7 +55,7 @@ impl BufMessageReader {
     /// The next message, where a byte is left. Its body stays shared with the buffer.
     ///
     /// A message that is cut is an unexpected end. After an error there is no other message.
-    #[tactic(auto, using(crate::proofs::BufLemmas::buf_message, crate::proofs::BufLemmas::buf_fresh, crate::proofs::BufLemmas::buf_cut, crate::proofs::BufLemmas::buf_fails))]
+    #[tactic(auto, using(crate::proofs::BufLemmas::buf_message, crate::proofs::BufLemmas::buf_fresh, crate::proofs::BufLemmas::buf_cut, crate::proofs::BufLemmas::buf_message_holds, crate::proofs::BufLemmas::buf_cut_holds, crate::proofs::BufLemmas::buf_fails))]
     pub fn next(&mut self, alloc: Global) -> Option<Result<DecoderMessage, IpcError>>
         ensures { BufReads self.old result self.new }
     {

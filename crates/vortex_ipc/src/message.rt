@@ -1,11 +1,15 @@
 //! Messages that are read.
 
+use vortex_array::{ArrayContext, ArrayParts};
 use vortex_buffer::ByteBuffer;
 use vortex_dtype::DType;
 
 /// A message that was read.
 #[derive(Drop)]
 pub enum DecoderMessage {
+    /// An array: the parts of its body, the names of encodings that its header tells, in their order,
+    /// and how many rows it has.
+    Array((ArrayParts, ArrayContext, usize)),
     /// A buffer, under the alignment that its header tells.
     Buffer(ByteBuffer),
     /// A type.

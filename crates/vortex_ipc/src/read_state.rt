@@ -1,9 +1,11 @@
 //! Messages that are read from a source, which is lent at each call.
 
-ghost use Rattle.std.specs.Prelude.{◌≡◌, ◌≤◌, false, None, Some, Err, [], length, min, IfOk, MatchResult};
+ghost use Rattle.std.specs.Prelude.{◌≡◌, ◌≤◌, true, None, Some, Err, [], length, min, IfOk, MatchResult};
 ghost use Rattle.vortex_stream.specs.Counts.{counts_of_read, raised_by};
 ghost use Rattle.vortex_ipc.specs.Decoder.{fresh};
-ghost use Rattle.vortex_ipc.specs.Reader.{SourceReads, is_done};
+ghost use Rattle.vortex_encodings.specs.Encodings.{names_of};
+ghost use Rattle.vortex_ipc.specs.ArrayReader.{with_done};
+ghost use Rattle.vortex_ipc.specs.Reader.{SourceReads, is_done, started};
 ghost use Rattle.vortex_ipc.specs.inner.Pieces.{GavePiece};
 ghost use Rattle.vortex_ipc.specs.inner.Came.{Came, IsReady, at_end};
 
@@ -18,8 +20,8 @@ use vortex_stream::{IpcError, MessageKind, Source, SourceFailed};
 /// How many bytes a read asks for at most.
 const MOST_ASKED: usize = 65_536;
 
-/// The state of a reader of messages without its source. Contracts see whether it is done, and what
-/// it counted.
+/// The state of a reader of messages without its source. Contracts see the names of the encodings
+/// that it holds, whether it is done, and what it counted.
 #[derive(Drop)]
 pub struct ReadState {
     decoder: MessageDecoder,
@@ -40,10 +42,16 @@ impl Model for ReadState {
 
     ghost Value = { ReaderState };
 
-    ghost view = { λ s. record { done = s.done; reads = s.reads; given = s.given; most = s.max_reads } };
+    ghost view = { λ s. record {
+      held = s.decoder.held;
+      done = s.done;
+      reads = s.reads;
+      given = s.given;
+      most = s.max_reads;
+    } };
 
     ghost invariant = { λ s. (length s.piece.items ≡ 65536) × (s.reads ≤ s.max_reads)
-        × (s.done ≡ false → s.reads ≤ s.given) × IsReady s.done s.decoder s.queue };
+        × (s.done ≡ false → s.reads ≤ s.given) × IsReady s.decoder.held s.done s.decoder s.queue };
 }
 
 /// What one message took: how many reads were made, how many bytes they gave, and the answer.
@@ -62,7 +70,7 @@ impl ReadState {
         max_reads: u64,
     ) -> Result<ReadState, IpcError>
         ensures { MatchResult result
-            (λ s. s ≡ record { done = false; reads = 0; given = 0; most = max_reads })
+            (λ s. s ≡ started (names_of registry) max_reads)
             (λ e. e ≡ IpcError.OutOfMemory) }
     {
         Ok(ReadState {
@@ -101,6 +109,13 @@ impl ReadState {
             (S.counts source.new) (S.rest source.old) (S.rest source.new) result }
     {
         self.next_wanted(alloc, source, Some(kind))
+    }
+
+    /// No more is read.
+    pub(crate) fn stop(&mut self)
+        ensures { self.new ≡ with_done true self.old }
+    {
+        self.done = true;
     }
 
     #[tactic(auto, using(crate::proofs::States::goes_on, crate::proofs::States::stays_done, crate::proofs::States::still_within, crate::proofs::States::still_gives))]
@@ -174,13 +189,14 @@ fn read_message<S: Source>(
     wanted: Option<MessageKind>,
     most: u64,
 ) -> Taken
-    requires decoder { decoder.old ≡ fresh }
+    requires decoder { decoder.old ≡ fresh decoder.old.held }
     requires queue { queue.old ≡ [] }
     requires piece { length piece.old ≡ 65536 }
-    ensures came { Came wanted most (S.counts source.old) (S.counts source.new)
+    ensures came { Came decoder.old.held wanted most (S.counts source.old) (S.counts source.new)
         (S.rest source.old) (S.rest source.new) result }
     ensures piece { length piece.new ≡ 65536 }
-    ensures ready { IsReady (is_done result.answer) decoder.new queue.new }
+    ensures held { decoder.new.held ≡ decoder.old.held }
+    ensures ready { IsReady decoder.old.held (is_done result.answer) decoder.new queue.new }
 {
     let mut given: u128 = 0;
     let mut missing = 4;

@@ -1,7 +1,8 @@
 //! Messages that are read from a source.
 
-ghost use Rattle.std.specs.Prelude.{◌≡◌, ◌-◌, ◌^◌, false, None, Some, MatchResult};
-ghost use Rattle.vortex_ipc.specs.Reader.{SourceReads};
+ghost use Rattle.std.specs.Prelude.{◌≡◌, ◌-◌, ◌^◌, None, Some, MatchResult};
+ghost use Rattle.vortex_encodings.specs.Encodings.{names_of};
+ghost use Rattle.vortex_ipc.specs.Reader.{SourceReads, started};
 
 use crate::message::DecoderMessage;
 use crate::read_state::ReadState;
@@ -25,7 +26,7 @@ impl<S: Source + Drop> SyncMessageReader<S> {
     ) -> Result<SyncMessageReader<S>, IpcError>
         ensures { MatchResult result
             (λ r. r ≡ record {
-              state = record { done = false; reads = 0; given = 0; most = 2 ^ 64 - 1 };
+              state = started (names_of registry) (2 ^ 64 - 1);
               source = source;
             })
             (λ e. e ≡ IpcError.OutOfMemory) }
@@ -42,7 +43,7 @@ impl<S: Source + Drop> SyncMessageReader<S> {
     ) -> Result<SyncMessageReader<S>, IpcError>
         ensures { MatchResult result
             (λ r. r ≡ record {
-              state = record { done = false; reads = 0; given = 0; most = max_reads };
+              state = started (names_of registry) max_reads;
               source = source;
             })
             (λ e. e ≡ IpcError.OutOfMemory) }

@@ -33,7 +33,7 @@ fn message(alloc: Global, body: &[u8]) -> Result<Vec<u8>, IpcError> {
 fn is_alone(message: &DecoderMessage) -> Option<bool> {
     match message {
         DecoderMessage::Buffer(body) => Some(body.inner().is_unique()),
-        DecoderMessage::DType(_) => None,
+        DecoderMessage::Array(_) | DecoderMessage::DType(_) => None,
     }
 }
 

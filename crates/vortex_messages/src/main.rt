@@ -1,6 +1,7 @@
-//! Lists the messages of a stream on standard input, one a line: the text of a type, or the size of a
-//! buffer and the exponent of its alignment. The status is 0 where the input ends between two
-//! messages, and else the number of the error, which stands on standard error.
+//! Lists the messages of a stream on standard input, one a line: the text of a type, the size of a
+//! buffer and the exponent of its alignment, or how many rows and names of encodings an array has.
+//! The status is 0 where the input ends between two messages, and else the number of the error, which
+//! stands on standard error.
 #![tactic(auto)]
 
 use std::alloc::Global;
@@ -16,6 +17,10 @@ const NO_OUTPUT: u8 = 64;
 /// One line for a message.
 fn line<W: Write>(out: &mut W, message: &DecoderMessage) -> io::Result<()> {
     match message {
+        DecoderMessage::Array(array) => {
+            let names = array.1.ids().len();
+            writeln!(out, "array of {} rows, {names} encodings", array.2)
+        }
         DecoderMessage::DType(dtype) => writeln!(out, "type {dtype}"),
         DecoderMessage::Buffer(buffer) => {
             let exponent = buffer.alignment().exponent();

@@ -14,12 +14,12 @@ abbrev pub at_end : ℕ → Option (Result DecoderMessage IpcError)
 at_end given = if given == 0 then None else Some (Err error.UnexpectedEnd)
 
 -- one message was read so, in so many reads that gave so many bytes
-pub record Came (wanted : Option MessageKind) (most : ℕ) (before after : SourceCounts)
-    (rest left : Option (List ℕ)) (t : Taken) : Type 0 where
-  pub message : ReadsMessage wanted most before after rest left t.answer
+pub record Came (held : List (List ℕ)) (wanted : Option MessageKind) (most : ℕ)
+    (before after : SourceCounts) (rest left : Option (List ℕ)) (t : Taken) : Type 0 where
+  pub message : ReadsMessage held wanted most before after rest left t.answer
   pub reads_are : message.call.reads ≡ t.reads
   pub given_are : message.call.given ≡ t.given
 
 -- after a message the decoder is between two, and no byte waits
-abbrev pub IsReady : Bool → DecoderState → List ℕ → Type 0
-IsReady done decoder queue = done ≡ false → (decoder ≡ fresh) × (queue ≡ [])
+abbrev pub IsReady : List (List ℕ) → Bool → DecoderState → List ℕ → Type 0
+IsReady held done decoder queue = done ≡ false → (decoder ≡ fresh held) × (queue ≡ [])

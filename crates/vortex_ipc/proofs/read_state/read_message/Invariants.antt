@@ -6,5 +6,5 @@ use Rattle.vortex_ipc.proofs.read_state.read_message.Given as goal
 abbrev pub invariant-loop-made : goal.invariant-loop-made
 invariant-loop-made g l =
     let source = g.S.Source in
-    Underway l.wanted (source.counts l.initial.source) (source.counts l.source) (source.rest l.initial.source) (source.rest l.source) l.decoder l.queue l.made l.given l.missing
+    Underway l.initial.decoder.held l.wanted (source.counts l.initial.source) (source.counts l.source) (source.rest l.initial.source) (source.rest l.source) l.decoder l.queue l.made l.given l.missing
     × (length l.piece ≡ 65536)
