@@ -5,7 +5,6 @@ use Rattle.std.specs.Prelude.{slice_range, if◌then◌else◌}
 use Rattle.std.specs.List.{AllByRecursion}
 use Rattle.std.proofs.lemmas.List.{length-map, length-replicate, length-take-le, length-drop, drop-drop, take-take, drop-take}
 use Rattle.vortex_terms.specs.Term.{Term, null, boolean, primitive, decimal, utf8, binary, structure, list, extension, fixed_size_list, Fields, no_fields, field}
-use Rattle.vortex_terms.specs.Types.{nullable}
 use Rattle.vortex_terms.specs.Row.{Row, null_row, truth_row, bytes_row, list_row, no_rows, row, rows_from, copies}
 use Rattle.vortex_terms.specs.Fits.{Fits}
 use Rattle.vortex_terms.specs.FromColumns.{zip_map, masked, pieces, inside_structs}
@@ -24,7 +23,7 @@ use Rattle.vortex_leaves.proofs.Rising.{length-first_chunks, length-pieces}
 use Rattle.vortex_leaves.proofs.Pieces.{pieces_range, offsets_range}
 use Rattle.vortex_array.specs.Column.{Column}
 use Rattle.vortex_array.specs.ArrayNode.{array_node_count, ArrayNode, ArrayNodes, no_array_nodes, array_nodes_count, array_nodes_before}
-use Rattle.vortex_array.specs.Content.{column_nodes, content_node, content_rows, column_rows, column_of, AreFields, IsMask, IsShaped, IsArray}
+use Rattle.vortex_array.specs.Content.{column_nodes, content_node, content_rows, column_rows, column_of, AreFields, is_maskable, IsMask, IsShaped, IsArray}
 use Rattle.vortex_array.specs.inner.Picked.{picked, from_on, IsPickedColumn, ArePickedColumns, IsPickedMask, IsPickedContent}
 use Rattle.vortex_array.specs.declared.held.Content.{Content}
 use Rattle.vortex_array.specs.declared.held.Content.TheVariants.{Nulls, Truths, Numbers, Decimals, Texts, Lists, FixedLists, Structs, Storage, Constant}
@@ -329,14 +328,14 @@ pub picked_rows : (a : Inside) (ps : List ℕ) (k : Validity) (c : Content) → 
     → IsPickedContent (term_of a.dtype) ps a.len a.held.content c
     → masked k (content_rows c (term_of a.dtype) (length ps)) ≡ picked ps (column_of a).rows
 picked_rows a ps k c h p q =
-    masked_picked a.len (nullable (term_of a.dtype)) ps a.held.validity k (content_rows a.held.content (term_of a.dtype) a.len)
+    masked_picked a.len (is_maskable (term_of a.dtype)) ps a.held.validity k (content_rows a.held.content (term_of a.dtype) a.len)
     (content_rows c (term_of a.dtype) (length ps)) h.mask (length-content (term_of a.dtype) a.len a.held.content h.shape) p q.rows
 
 -- ---- the array of what is picked
 
 pub record IsMade (ps : List ℕ) (x : Column) (t : Term) (n : ℕ) (k : Validity) (c : Content) : Type 0 where
   pub shape : IsShaped c t n
-  pub mask : IsMask n (nullable t) k
+  pub mask : IsMask n (is_maskable t) k
   pub same : masked k (content_rows c t n) ≡ picked ps x.rows
   pub count : n ≡ length (masked k (content_rows c t n))
   pub fit : AllByRecursion (Fits t) (masked k (content_rows c t n))
@@ -354,7 +353,7 @@ made_by a ps k c h b p q =
     let below : Below (length rs) ps = subst (λ n. Below n ps) h.count b in
     record {
       shape = q.shape;
-      mask = mask_picked a.len (nullable t) ps a.held.validity k h.mask b p;
+      mask = mask_picked a.len (is_maskable t) ps a.held.validity k h.mask b p;
       same = same;
       count = sym (ap length same ∙ length-picked ps rs below);
       fit = subst (AllByRecursion (Fits t)) (sym same) (all_picked (Fits t) ps rs h.holds.fit);

@@ -1,5 +1,5 @@
 -- Where a call has a result, the operator can be used.
-use Rattle.std.specs.Prelude.{◌≡◌, Option, Some, refl}
+use Rattle.std.proofs.Common.{◌≡◌, Option, Some, refl, subst}
 use Rattle.std.specs.Option.{IsSome}
 use Rattle.vortex_value.specs.declared.numeric_operator.NumericOperator.{NumericOperator}
 use Rattle.vortex_scalar.specs.ScalarTerm.{ScalarTerm}
