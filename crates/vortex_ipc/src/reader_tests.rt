@@ -111,7 +111,10 @@ fn a_source_that_stops(rt: HostRuntime) {
 /// Whether the end behind so many bytes is an unexpected one.
 fn ends_at(alloc: Global, size: usize) -> bool {
     match from_source(alloc, &BUFFER[..size.min(71)], 50, &[], u64::MAX) {
-        Ok((answers, _, _)) => answers == [END, None],
+        Ok(found) => {
+            let answers = found.0;
+            answers == [END, None]
+        }
         Err(_) => false,
     }
 }
