@@ -4,6 +4,7 @@ pub mod Content
 pub mod Falls
 pub mod Decoded
 pub mod Answers
+pub mod Makes
 pub mod inner
 pub mod ValidRows
 pub mod PartColumns
