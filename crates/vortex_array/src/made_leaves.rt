@@ -71,7 +71,7 @@ impl Model for DecimalArray {
 }
 
 impl BoolArray {
-    /// The truth values, null where the mask is false. They are copied, a bit each. It is refused as
+    /// The truth values, null where the mask is false. They are copied as bits. It is refused as
     /// TooLarge above 4,294,967,295 rows, as LengthMismatch where the mask has another length, and
     /// as TypeMismatch where the mask is false under a type that is not nullable, in this order.
     pub fn try_new(
@@ -103,7 +103,7 @@ impl BoolArray {
 impl PrimitiveArray {
     /// The numbers of the type's kind, null where the mask is false. They are copied. It is refused
     /// as TooLarge above 4,294,967,295 rows, as LengthMismatch where the mask has another length,
-    /// and as TypeMismatch where the mask is false under a type that is not nullable, in this order.
+    /// and as TypeMismatch where it is false under a type that is not nullable, in this order.
     pub fn try_new<T: NativePType>(
         alloc: Global,
         values: &[T],

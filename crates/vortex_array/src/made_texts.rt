@@ -74,7 +74,7 @@ impl VarBinArray {
     /// The pieces of the bytes between each offset and the next, null where the mask is false. The
     /// bytes are shared, and the offsets copied. It is refused as TooLarge above 4,294,967,295
     /// pieces, as LengthMismatch where the offsets are none, fall, or pass the end of the bytes, or
-    /// the mask has another length, and as TypeMismatch where the mask is false under a type that is
+    /// the mask has another length, and as TypeMismatch where it is false under a type that is
     /// not nullable, the type is not that of texts or of bytes, or a text that is not null is no
     /// UTF-8, in this order.
     pub fn try_new(

@@ -127,7 +127,8 @@ impl Decimals {
             (map (λ x. whole_row (T.number x)) values.now))
             (λ e. e ≡ LeafError.OutOfMemory) }
         ensures fit { IfOk result (λ _.
-            AllByRecursion (λ x. IsTrue (fits (width_format T.VALUES_TYPE) (T.number x))) values.now) }
+            AllByRecursion (λ x. IsTrue (fits (width_format T.VALUES_TYPE) (T.number x)))
+            values.now) }
     {
         let digits = numbers(alloc, decimal_format(T::VALUES_TYPE), values)?;
         Ok(Decimals { digits })
