@@ -12,3 +12,5 @@ pub mod ConstantRows
 pub mod HeldParts
 pub mod ValueRows
 pub mod HeldValues
+pub mod MadeMasks
+pub mod MadeLeaves

@@ -9,3 +9,4 @@ pub mod inner
 pub mod ValidRows
 pub mod PartColumns
 pub mod ValuesAt
+pub mod MadeLeaves
