@@ -12,3 +12,7 @@ pub mod ConstantRows
 pub mod HeldParts
 pub mod ValueRows
 pub mod HeldValues
+pub mod MadeMasks
+pub mod NestedRows
+pub mod OffsetTests
+pub mod NestedMade

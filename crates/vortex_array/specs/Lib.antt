@@ -9,3 +9,5 @@ pub mod inner
 pub mod ValidRows
 pub mod PartColumns
 pub mod ValuesAt
+pub mod ErrorNumber
+pub mod MadeNested

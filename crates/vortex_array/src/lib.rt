@@ -8,12 +8,18 @@ mod decode;
 mod decode_nested;
 mod error;
 mod held;
+mod made;
+mod nested;
+mod nested_structs;
 mod parts;
 mod pick;
+mod scalars;
 mod select;
 mod values;
 
 pub use context::ArrayContext;
 pub use error::ArrayError;
 pub use held::Array;
+pub use nested::{FixedSizeListArray, ListArray};
+pub use nested_structs::{ExtArray, StructArray};
 pub use parts::ArrayParts;
