@@ -16,3 +16,4 @@ pub mod MadeMasks
 pub mod NestedRows
 pub mod OffsetTests
 pub mod NestedMade
+pub mod MadeLeaves

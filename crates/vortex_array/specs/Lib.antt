@@ -11,3 +11,4 @@ pub mod PartColumns
 pub mod ValuesAt
 pub mod ErrorNumber
 pub mod MadeNested
+pub mod MadeLeaves

@@ -3,3 +3,4 @@ pub mod Numbers
 pub mod Texts
 pub mod Constant
 pub mod Selected
+pub mod OffsetTest

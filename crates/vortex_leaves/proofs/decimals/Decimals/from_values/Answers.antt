@@ -1,0 +1,9 @@
+use Rattle.std.proofs.Common.{IsTrue, subst}
+use Rattle.std.specs.List.{AllByRecursion}
+use Rattle.vortex_number.specs.Format.{Format, fits}
+use Rattle.vortex_leaves.proofs.decimals.Decimals.from_values.Goals as goal
+
+pub returns-clause-fit : goal.returns-clause-fit
+returns-clause-fit g c =
+    subst (λ (f : Format). AllByRecursion (λ x. IsTrue (fits f (g.T.WholeNumber.number x))) c.args.values.now)
+    g.met.T.NativeDecimalType.format_law c.in_ok-digits.ensures.fit
