@@ -15,10 +15,11 @@ use Rattle.vortex_node_rows.proofs.Texts.{length-pieces}
 use Rattle.vortex_node_rows.proofs.Lists.{length-chunks}
 use Rattle.vortex_node_rows.specs.declared.encoding.Encoding.TheVariants as encoding
 use Rattle.vortex_array.specs.ArrayNode.{array_node, array_child, array_nodes_before}
+use Rattle.vortex_leaves.specs.OffsetTest.{offsets_part}
 use Rattle.vortex_array.specs.Column.{Column}
 use Rattle.vortex_array.specs.Content.{column_nodes, column_rows}
 use Rattle.vortex_array.specs.Makes.{first_refusal, mask_differs, too_many}
-use Rattle.vortex_array.specs.MadeNested.{are_offsets, fixed_lists_refusal, is_not_long, list_count, lists_refusal, made_fixed_lists, made_lists, made_structs, structs_refusal}
+use Rattle.vortex_array.specs.MadeNested.{fixed_lists_refusal, is_not_long, list_count, lists_refusal, made_fixed_lists, made_lists, made_structs, structs_refusal}
 use Rattle.vortex_array.specs.inner.Masks.{IsTaken, mask_tests}
 use Rattle.vortex_array.specs.declared.error.ArrayError.{ArrayError}
 use Rattle.vortex_array.specs.declared.error.ArrayError.TheVariants.{LengthMismatch, TooLarge, TypeMismatch}
@@ -76,22 +77,22 @@ pub lists_too_large : (a : Column) (os : List ℕ) (nl : Bool) (v : Validity) �
 lists_too_large a os nl v h = too_large _ _ _ h
 
 pub lists_wrong : (a : Column) (os : List ℕ) (nl : Bool) (v : Validity) → too_many (list_count os) ≡ false
-    → are_offsets (length a.rows) os ≡ false → lists_refusal a os nl v ≡ Some LengthMismatch
+    → offsets_part os (length a.rows) ≡ false → lists_refusal a os nl v ≡ Some LengthMismatch
 lists_wrong a os nl v few h =
-    wrong_length _ _ _ few (or_true _ (not (are_offsets (length a.rows) os)) (turned _ false h))
+    wrong_length _ _ _ few (or_true _ (not (offsets_part os (length a.rows))) (turned _ false h))
 
 pub lists_masked : (a : Column) (os : List ℕ) (nl : Bool) (v : Validity) (e : ArrayError)
-    → too_many (list_count os) ≡ false → are_offsets (length a.rows) os ≡ true
+    → too_many (list_count os) ≡ false → offsets_part os (length a.rows) ≡ true
     → first_refusal (mask_tests (list_count os) nl v) ≡ Some e → lists_refusal a os nl v ≡ Some e
 lists_masked a os nl v e few h f =
-    by_mask _ _ _ _ e few (or_false _ (not (are_offsets (length a.rows) os)) (turned _ true h)) f
+    by_mask _ _ _ _ e few (or_false _ (not (offsets_part os (length a.rows))) (turned _ true h)) f
 
 pub lists_are_made : (made a : Column) (os copy : List ℕ) (nl : Bool) (given v : Validity) → copy ≡ os
-    → too_many (list_count os) ≡ false → are_offsets (length a.rows) os ≡ true
+    → too_many (list_count os) ≡ false → offsets_part os (length a.rows) ≡ true
     → IsTaken (list_count os) nl given v → made ≡ made_lists a copy nl v
     → (lists_refusal a os nl given ≡ None) × (made ≡ made_lists a os nl given)
 lists_are_made made a os copy nl given v same few h taken is = (
-  no_refusal _ _ _ few (or_false _ (not (are_offsets (length a.rows) os)) (turned _ true h) ∙ taken.differs) taken.hides,
+  no_refusal _ _ _ few (or_false _ (not (offsets_part os (length a.rows))) (turned _ true h) ∙ taken.differs) taken.hides,
   is ∙ ap (λ l. made_lists a l nl v) same ∙ shown,
 )
   where

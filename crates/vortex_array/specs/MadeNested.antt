@@ -3,18 +3,18 @@
 --     fixed_lists_refusal, made_fixed_lists    n lists of k elements each
 --     structs_refusal, made_structs            n structs of named fields
 --     extensions_refusal, made_extensions      extensions over their storage
-use Rattle.std.specs.Prelude.{ℕ, ◌*◌, ◌-◌, ◌==◌, ◌&&◌, ◌||◌, not, nat_le, Bool, false, List, [], ◌∷◌, Option, map, length}
+use Rattle.std.specs.Prelude.{ℕ, ◌*◌, ◌-◌, ◌==◌, ◌||◌, not, Bool, List, [], ◌∷◌, Option, map, length}
 use Rattle.std.specs.List.{list_any}
 use Rattle.vortex_terms.specs.Term.{list, fixed_size_list, structure}
 use Rattle.vortex_terms.specs.Types.{fields_from}
 use Rattle.vortex_terms.specs.Row.{list_row, rows_from}
 use Rattle.vortex_terms.specs.Equality.{term_eq}
-use Rattle.vortex_terms.specs.FromColumns.{masked, last_from, list_rows, struct_rows}
+use Rattle.vortex_terms.specs.FromColumns.{masked, list_rows, struct_rows}
 use Rattle.vortex_types.specs.ExtTerm.{ExtTerm, ext_type}
 use Rattle.vortex_node_rows.specs.declared.encoding.Encoding.TheVariants as encoding
-use Rattle.vortex_node_rows.specs.Buffers.{never_fall}
 use Rattle.vortex_node_rows.specs.Pieces.{chunks}
 use Rattle.vortex_node_rows.specs.RowsOf.{Validity}
+use Rattle.vortex_leaves.specs.OffsetTest.{offsets_part}
 use Rattle.vortex_array.specs.ArrayNode.{array_node, no_array_nodes, array_child, array_nodes_before}
 use Rattle.vortex_array.specs.Column.{Column}
 use Rattle.vortex_array.specs.Content.{column_nodes, column_rows, mask_nodes}
@@ -26,11 +26,6 @@ use Rattle.vortex_array.specs.declared.error.ArrayError.TheVariants.{LengthMisma
 abbrev pub list_count : List ℕ → ℕ
 list_count os = length os - 1
 
--- there are offsets, and they never fall and do not pass the end
-abbrev pub are_offsets : ℕ → List ℕ → Bool
-are_offsets end [] = false
-are_offsets end (o ∷ os) = never_fall (o ∷ os) && nat_le (last_from o os) end
-
 -- the rows are not n
 abbrev pub is_not_long : ℕ → Column → Bool
 is_not_long n a = not (length a.rows == n)
@@ -40,7 +35,7 @@ is_not_long n a = not (length a.rows == n)
 abbrev pub lists_refusal : Column → List ℕ → Bool → Validity → Option ArrayError
 lists_refusal elements os nl v = first_refusal (
     (too_many (list_count os), TooLarge)
-    ∷ (mask_differs (list_count os) v || not (are_offsets (length elements.rows) os), LengthMismatch)
+    ∷ (mask_differs (list_count os) v || not (offsets_part os (length elements.rows)), LengthMismatch)
     ∷ (mask_hides nl v, TypeMismatch) ∷ []
     )
 

@@ -1,14 +1,13 @@
 //! Arrays of lists, from their elements.
 
-ghost use Rattle.std.specs.Prelude.{◌≡◌, ◌≤◌, ◌*◌, IsTrue, length, MatchResult, Ok};
+ghost use Rattle.std.specs.Prelude.{◌≡◌, ◌≤◌, ◌*◌, length, MatchResult, Ok};
 ghost use Rattle.vortex_terms.specs.Term.{fixed_size_list, list};
 ghost use Rattle.vortex_names.specs.Nullable.{is_nullable};
 ghost use Rattle.vortex_types.specs.DTypes.{term_of};
-ghost use Rattle.vortex_node_rows.specs.Buffers.{never_fall};
 ghost use Rattle.vortex_node_rows.specs.RowsOf.{most_rows};
 ghost use Rattle.vortex_leaves.specs.Texts.{AreOffsets};
 ghost use Rattle.vortex_array.specs.Content.{IsMask};
-ghost use Rattle.vortex_array.specs.MadeNested.{are_offsets, fixed_lists_refusal, list_count, lists_refusal, made_fixed_lists, made_lists};
+ghost use Rattle.vortex_array.specs.MadeNested.{fixed_lists_refusal, lists_refusal, made_fixed_lists, made_lists};
 ghost use Rattle.vortex_array.specs.Makes.{Makes};
 
 use crate::error::ArrayError;
@@ -17,7 +16,7 @@ use crate::made::{MOST_ROWS, fitting_mask};
 use std::alloc::Global;
 use std::marker::Model;
 use std::rc::Rc;
-use vortex_leaves::{Offsets, OffsetsBuilder};
+use vortex_leaves::{Offsets, offsets_part};
 use vortex_mask::Mask;
 use vortex_names::Nullability;
 use vortex_types::{DType, Element};
@@ -75,11 +74,11 @@ impl ListArray {
         if n > MOST_ROWS {
             return Err(ArrayError::TooLarge);
         }
-        if !do_fit(&offsets, elements.len()) {
+        if !offsets_part(&offsets, elements.len()) {
             return Err(ArrayError::LengthMismatch);
         }
         let validity = fitting_mask(n, nullability.into(), validity)?;
-        let offsets = kept_offsets(alloc, &offsets)?;
+        let offsets = Offsets::from_values(alloc, &offsets)?;
         let array = lists(alloc, elements, offsets, n, nullability, validity)?;
         Ok(ListArray { array })
     }
@@ -126,37 +125,6 @@ impl FixedSizeListArray {
     {
         Ok(self.array)
     }
-}
-
-/// Whether there are offsets, and they never fall and do not pass the end.
-fn do_fit(offsets: &[u32], end: usize) -> bool
-    ensures { result ≡ are_offsets end offsets.now }
-{
-    let mut ok = true;
-    let mut last = 0;
-    for offset in offsets {
-        ok &= last <= *offset;
-        last = *offset;
-    }
-    if offsets.is_empty() {
-        return false;
-    }
-    ok && last as usize <= end
-}
-
-/// The offsets, copied.
-fn kept_offsets(alloc: Global, offsets: &[u32]) -> Result<Offsets, ArrayError>
-    requires some { 1 ≤ length offsets.now }
-    requires rise { IsTrue (never_fall offsets.now) }
-    ensures { MatchResult result (λ os. os ≡ offsets.now) (λ e. e ≡ ArrayError.OutOfMemory) }
-{
-    let mut builder = OffsetsBuilder::new(alloc)?;
-    for offset in offsets {
-        builder.push(*offset)?;
-    }
-    // The builder's own first offset is left out.
-    let kept = builder.finish()?.slice(1, offsets.len())?;
-    Ok(kept)
 }
 
 /// The type of lists of elements of this type.

@@ -2,8 +2,10 @@
 
 use hex::decode;
 use std::alloc::Global;
-use vortex_array::{Array, ArrayContext, ArrayError, ArrayParts, ExtArray, FixedSizeListArray};
-use vortex_array::{ListArray, StructArray};
+use vortex_array::{
+    Array, ArrayContext, ArrayError, ArrayParts, ExtArray, FixedSizeListArray, ListArray,
+    StructArray,
+};
 use vortex_buffer::ByteBuffer;
 use vortex_mask::{Mask, MaskBuilder};
 use vortex_names::{ExtID, FieldNames, Nullability};
@@ -16,7 +18,8 @@ const MAY: Nullability = Nullability::Nullable;
 
 /// The numbers 1, 5, 5, 5, 5, 1, 1, 1 and 5 of type i8, none of them null.
 fn numbers(alloc: Global) -> Option<Array> {
-    let digits = "0105050505010101050c00000008000c000400080008000000140000001c0000000c000c0000000400000008000c000000140000001400000001000000000000000900000000000000010000000000000048000000";
+    let digits =
+        "0105050505010101050c00000008000c000400080008000000140000001c0000000c000c0000000400000008000c000000140000001400000001000000000000000900000000000000010000000000000048000000";
     let bytes = decode(alloc, digits).ok()?;
     let body = ByteBuffer::from_vec(alloc, bytes).ok()?;
     let context = ArrayContext::from_ids(alloc, &["vortex.primitive"]).ok()?;
@@ -132,14 +135,7 @@ fn fixed_lists(
     validity: Option<Mask>,
 ) -> Option<Result<FixedSizeListArray, ArrayError>> {
     let elements = numbers(alloc)?;
-    Some(FixedSizeListArray::try_new(
-        alloc,
-        elements,
-        size,
-        len,
-        nullability,
-        validity,
-    ))
+    Some(FixedSizeListArray::try_new(alloc, elements, size, len, nullability, validity))
 }
 
 fn shows_fixed(alloc: Global) -> Option<bool> {
@@ -175,14 +171,7 @@ fn structs(
     let mut fields = Vec::new(alloc);
     fields.push(first(alloc, 3)?).ok()?;
     fields.push(first(alloc, count)?).ok()?;
-    Some(StructArray::try_new(
-        alloc,
-        names,
-        fields,
-        len,
-        nullability,
-        validity,
-    ))
+    Some(StructArray::try_new(alloc, names, fields, len, nullability, validity))
 }
 
 fn shows_structs(alloc: Global) -> Option<bool> {
