@@ -13,4 +13,7 @@ pub mod HeldParts
 pub mod ValueRows
 pub mod HeldValues
 pub mod MadeMasks
+pub mod NestedRows
+pub mod OffsetTests
+pub mod NestedMade
 pub mod MadeLeaves

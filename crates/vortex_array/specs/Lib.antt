@@ -9,4 +9,6 @@ pub mod inner
 pub mod ValidRows
 pub mod PartColumns
 pub mod ValuesAt
+pub mod ErrorNumber
+pub mod MadeNested
 pub mod MadeLeaves

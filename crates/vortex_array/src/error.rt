@@ -36,6 +36,30 @@ pub enum ArrayError {
     OutOfMemory,
 }
 
+impl ArrayError {
+    ghost use Rattle.vortex_array.specs.ErrorNumber.{error_number};
+
+    /// The number of the error, which stays the same in later versions.
+    pub fn number(&self) -> u8
+        ensures { result ≡ error_number self.now }
+    {
+        match self {
+            ArrayError::Malformed => 1,
+            ArrayError::TypeMismatch => 2,
+            ArrayError::LengthMismatch => 3,
+            ArrayError::TooLarge => 4,
+            ArrayError::CodesNotUnsigned => 5,
+            ArrayError::CodeOutOfRange {
+                row: _,
+                code: _,
+                values: _,
+            } => 6,
+            ArrayError::CastRefused { row: _ } => 7,
+            ArrayError::OutOfMemory => 8,
+        }
+    }
+}
+
 impl From<AllocError> for ArrayError {
     ghost from_gives = { λ _ e. e ≡ OutOfMemory };
 

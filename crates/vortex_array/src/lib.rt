@@ -11,8 +11,11 @@ mod held;
 mod made;
 mod made_leaves;
 mod made_texts;
+mod nested;
+mod nested_structs;
 mod parts;
 mod pick;
+mod scalars;
 mod select;
 mod values;
 
@@ -21,4 +24,6 @@ pub use error::ArrayError;
 pub use held::Array;
 pub use made_leaves::{BoolArray, DecimalArray, PrimitiveArray};
 pub use made_texts::{ConstantArray, NullArray, VarBinArray};
+pub use nested::{FixedSizeListArray, ListArray};
+pub use nested_structs::{ExtArray, StructArray};
 pub use parts::ArrayParts;
