@@ -7,3 +7,4 @@ pub mod Ranges
 pub mod KeptRows
 pub mod SelectedNumbers
 pub mod Pieces
+pub mod Joined
