@@ -10,6 +10,9 @@ mod error;
 mod held;
 mod parts;
 mod pick;
+mod pick_leaves;
+mod pick_parts;
+mod pick_rows;
 mod select;
 mod values;
 
