@@ -4,7 +4,12 @@ pub mod FieldArrays
 pub mod Truths
 pub mod Childless
 pub mod PickLaws
+pub mod PickPlaces
+pub mod Distinct
+pub mod PickedParts
 pub mod PickedContents
+pub mod PickedRows
+pub mod KeptAll
 pub mod ValidLists
 pub mod PartRows
 pub mod HeldRows

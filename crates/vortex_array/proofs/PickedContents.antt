@@ -17,29 +17,20 @@ use Rattle.vortex_node_rows.proofs.Constants.{length-copies}
 use Rattle.vortex_node_rows.proofs.Masks.{length-zip_map}
 use Rattle.vortex_node_rows.proofs.Lists.{length-chunks}
 use Rattle.vortex_leaves.specs.Numbers.{NumberBytes, number_rows}
-use Rattle.vortex_leaves.specs.Texts.{TextBytes, text_pieces}
+use Rattle.vortex_leaves.specs.Texts.{AreOffsets, TextBytes, text_pieces}
 use Rattle.vortex_leaves.specs.Selected.{AreNumbersOf}
 use Rattle.vortex_leaves.proofs.Rising.{length-first_chunks, length-pieces}
 use Rattle.vortex_leaves.proofs.Pieces.{pieces_range, offsets_range}
 use Rattle.vortex_array.specs.Column.{Column}
 use Rattle.vortex_array.specs.ArrayNode.{array_node_count, ArrayNode, ArrayNodes, no_array_nodes, array_nodes_count, array_nodes_before}
 use Rattle.vortex_array.specs.Content.{column_nodes, content_node, content_rows, column_rows, column_of, AreFields, is_maskable, IsMask, IsShaped, IsArray}
-use Rattle.vortex_array.specs.inner.Picked.{picked, from_on, IsPickedColumn, ArePickedColumns, IsPickedMask, IsPickedContent}
+use Rattle.vortex_array.specs.inner.Picked.{picked, IsPickedColumn, ArePickedColumns, IsPickedLists, IsPickedMask, IsPickedContent}
+use Rattle.vortex_array.specs.inner.Spans.{spans, AreStarts}
 use Rattle.vortex_array.specs.declared.held.Content.{Content}
 use Rattle.vortex_array.specs.declared.held.Content.TheVariants.{Nulls, Truths, Numbers, Decimals, Texts, Lists, FixedLists, Structs, Storage, Constant}
 use Rattle.vortex_array.specs.declared.held.Array.TheInside.{Inside}
-use Rattle.vortex_array.proofs.PickLaws.{Below, picked-map, picked-zip, picked-replicate, length-picked, all_picked, length-from_on, below_from_on, picked_range}
-
--- ---- places of a range
-
-abbrev pub span : ℕ → ℕ → List ℕ
-span from to = from_on (to - from) from
-
-pub span_below : (from to n : ℕ) → from ≤ to → to ≤ n → Below n (span from to)
-span_below from to n le hi = below_from_on (to - from) from n (omega (arith, le, hi))
-
-pub span_long : (from to : ℕ) → length (span from to) ≡ to - from
-span_long from to = length-from_on (to - from) from
+use Rattle.vortex_array.proofs.PickLaws.{Below, picked-map, picked-zip, picked-replicate, length-picked, all_picked}
+use Rattle.vortex_array.proofs.PickedParts.{even_starts, even_picked}
 
 -- ---- leaves
 
@@ -57,30 +48,27 @@ truths_picked (boolean nl) ps n m k b h e =
     record { shape = ap length e ∙ length-picked ps m (subst (λ j. Below j ps) (sym h) b); rows = ap (map truth_row) e ∙ sym (picked-map truth_row ps m) }
 truths_picked _ ps n m k b h e = absurd h
 
-numbers_long : (a : NumberBytes) → length (number_rows a) ≡ a.count
+pub numbers_long : (a : NumberBytes) → length (number_rows a) ≡ a.count
 numbers_long a = length-map _ _ ∙ length-first_chunks _ a.count a.bytes
 
-pub numbers_picked : (t : Term) (n from to : ℕ) (a b : NumberBytes) → from ≤ to → to ≤ n → IsShaped (Numbers a) t n
-    → AreNumbersOf a.format (slice_range (number_rows a) from to) b → IsPickedContent t (span from to) n (Numbers a) (Numbers b)
-numbers_picked (primitive k nl) n from to a b le hi h e =
-    let same : slice_range (number_rows a) from to ≡ picked (span from to) (number_rows a) =
-    sym (picked_range from to (number_rows a) le (omega (arith, numbers_long a, h.1, hi))) in
-    record {
-      shape = (e.format ∙ h.0, e.count ∙ ap length same ∙ length-picked (span from to) (number_rows a) (span_below from to _ le (omega (arith, numbers_long a, h.1, hi))));
-      rows = e.rows ∙ same;
-    }
-numbers_picked _ n from to a b le hi h e = absurd h
+still_below : {A : Type 0} (ps : List ℕ) (n : ℕ) (xs : List A) → Below n ps → length xs ≡ n → Below (length xs) ps
+still_below ps n xs b e = subst (λ j. Below j ps) (sym e) b
 
-pub decimals_picked : (t : Term) (n from to : ℕ) (a b : NumberBytes) → from ≤ to → to ≤ n → IsShaped (Decimals a) t n
-    → AreNumbersOf a.format (slice_range (number_rows a) from to) b → IsPickedContent t (span from to) n (Decimals a) (Decimals b)
-decimals_picked (decimal p s nl) n from to a b le hi h e =
-    let same : slice_range (number_rows a) from to ≡ picked (span from to) (number_rows a) =
-    sym (picked_range from to (number_rows a) le (omega (arith, numbers_long a, h, hi))) in
-    record {
-      shape = e.count ∙ ap length same ∙ length-picked (span from to) (number_rows a) (span_below from to _ le (omega (arith, numbers_long a, h, hi)));
-      rows = e.rows ∙ same;
-    }
-decimals_picked _ n from to a b le hi h e = absurd h
+pub numbers_picked : (t : Term) (ps : List ℕ) (n : ℕ) (a b : NumberBytes) → Below n ps → IsShaped (Numbers a) t n
+    → AreNumbersOf a.format (picked ps (number_rows a)) b → IsPickedContent t ps n (Numbers a) (Numbers b)
+numbers_picked (primitive k nl) ps n a b w h e = record {
+  shape = (e.format ∙ h.0, e.count ∙ length-picked ps (number_rows a) (still_below ps n (number_rows a) w (numbers_long a ∙ h.1)));
+  rows = e.rows;
+}
+numbers_picked _ ps n a b w h e = absurd h
+
+pub decimals_picked : (t : Term) (ps : List ℕ) (n : ℕ) (a b : NumberBytes) → Below n ps → IsShaped (Decimals a) t n
+    → AreNumbersOf a.format (picked ps (number_rows a)) b → IsPickedContent t ps n (Decimals a) (Decimals b)
+decimals_picked (decimal p s nl) ps n a b w h e = record {
+  shape = e.count ∙ length-picked ps (number_rows a) (still_below ps n (number_rows a) w (numbers_long a ∙ h));
+  rows = e.rows;
+}
+decimals_picked _ ps n a b w h e = absurd h
 
 -- how many there are, by the content
 pub numbers_count : (t : Term) (n : ℕ) (a : NumberBytes) → IsShaped (Numbers a) t n → a.count ≡ n
@@ -104,23 +92,21 @@ pub lists_count : (t : Term) (n : ℕ) (os : List ℕ) (es : Rc Column Global) �
 lists_count (list t nl) n os es h = h.1.count
 lists_count _ n os es h = absurd h
 
-texts_same : (n from to : ℕ) (a b : TextBytes) → from ≤ to → to ≤ n → length (text_pieces a) ≡ n
-    → text_pieces b ≡ slice_range (text_pieces a) from to
-    → (length (text_pieces b) ≡ length (span from to))
-    × (map bytes_row (text_pieces b) ≡ picked (span from to) (map bytes_row (text_pieces a)))
-texts_same n from to a b le hi h e =
-    let same : text_pieces b ≡ picked (span from to) (text_pieces a) = e ∙ sym (picked_range from to (text_pieces a) le (omega (arith, h, hi))) in (
-      ap length same ∙ length-picked (span from to) (text_pieces a) (span_below from to _ le (omega (arith, h, hi))),
-      ap (map bytes_row) same ∙ sym (picked-map bytes_row (span from to) (text_pieces a)),
-    )
+texts_same : (ps : List ℕ) (n : ℕ) (a b : TextBytes) → Below n ps → length (text_pieces a) ≡ n
+    → text_pieces b ≡ picked ps (text_pieces a)
+    → (length (text_pieces b) ≡ length ps) × (map bytes_row (text_pieces b) ≡ picked ps (map bytes_row (text_pieces a)))
+texts_same ps n a b w h e = (
+  ap length e ∙ length-picked ps (text_pieces a) (still_below ps n (text_pieces a) w h),
+  ap (map bytes_row) e ∙ sym (picked-map bytes_row ps (text_pieces a)),
+)
 
-pub texts_picked : (t : Term) (n from to : ℕ) (a b : TextBytes) → from ≤ to → to ≤ n → IsShaped (Texts a) t n
-    → text_pieces b ≡ slice_range (text_pieces a) from to → IsPickedContent t (span from to) n (Texts a) (Texts b)
-texts_picked (utf8 nl) n from to a b le hi h e =
-    let p = texts_same n from to a b le hi h e in record { shape = p.0; rows = p.1 }
-texts_picked (binary nl) n from to a b le hi h e =
-    let p = texts_same n from to a b le hi h e in record { shape = p.0; rows = p.1 }
-texts_picked _ n from to a b le hi h e = absurd h
+pub texts_picked : (t : Term) (ps : List ℕ) (n : ℕ) (a b : TextBytes) → Below n ps → IsShaped (Texts a) t n
+    → text_pieces b ≡ picked ps (text_pieces a) → IsPickedContent t ps n (Texts a) (Texts b)
+texts_picked (utf8 nl) ps n a b w h e =
+    let p = texts_same ps n a b w h e in record { shape = p.0; rows = p.1 }
+texts_picked (binary nl) ps n a b w h e =
+    let p = texts_same ps n a b w h e in record { shape = p.0; rows = p.1 }
+texts_picked _ ps n a b w h e = absurd h
 
 pub constant_picked : (t : Term) (ps : List ℕ) (n : ℕ) (v w : ValueTerm) → Below n ps → IsShaped (Constant v) t n → w ≡ v
     → IsPickedContent t ps n (Constant v) (Constant w)
@@ -132,90 +118,39 @@ constant_picked t ps n v w b h e =
 
 -- ---- lists
 
-pub lists_picked : (t : Term) (n from to : ℕ) (os new : List ℕ) (es : Rc Column Global) (fs : Rc Column Global) → from ≤ to → to ≤ n
-    → IsShaped (Lists os es) t n → new ≡ slice_range os from (suc to) → fs.value ≡ es.value
-    → IsPickedContent t (span from to) n (Lists os es) (Lists new fs)
-lists_picked (list t nl) n from to os new es fs le hi h e same =
+pub lists_shape : (t : Term) (n : ℕ) (os : List ℕ) (es : Rc Column Global) → IsShaped (Lists os es) t n
+    → AreOffsets n (length es.value.rows) os
+lists_shape (list t nl) n os es h = h.1
+lists_shape _ n os es h = absurd h
+
+pub lists_picked : (t : Term) (ps : List ℕ) (n : ℕ) (os new : List ℕ) (es fs : Rc Column Global) → IsShaped (Lists os es) t n
+    → IsPickedLists ps os es.value new fs.value → IsPickedContent t ps n (Lists os es) (Lists new fs)
+lists_picked (list t nl) ps n os new es fs h p =
     let g : List Row → Row = λ rs. list_row (rows_from rs) in
-    let room : to < length os = omega (arith, h.1.count, hi) in
-    let range = offsets_range from to (length es.value.rows) os new le room h.1.rise h.1.within e in
-    let cut : pieces new es.value.rows ≡ slice_range (pieces os es.value.rows) from to =
-    ap (λ l. pieces l es.value.rows) e ∙ pieces_range from to os es.value.rows le in
-    let many : length (pieces os es.value.rows) ≡ n = length-pieces n os es.value.rows h.1.count in
-    let all : slice_range (pieces os es.value.rows) from to ≡ picked (span from to) (pieces os es.value.rows) =
-    sym (picked_range from to (pieces os es.value.rows) le (omega (arith, many, hi))) in
-    let long : length new ≡ suc (length (span from to)) = ap length e ∙ length-range os from to le room ∙ ap suc (sym (span_long from to)) in
-    rw same (record {
-      shape = (h.0, record { count = long; rise = range.1; within = range.2 });
-      rows = ap (map g) (cut ∙ all) ∙ sym (picked-map g (span from to) (pieces os es.value.rows));
-    })
-  where
-    length-range : (os : List ℕ) (from to : ℕ) → from ≤ to → to < length os → length (slice_range os from (suc to)) ≡ suc (to - from)
-    length-range os from to le room =
-        length-take-le (suc to - from) (drop from os) (omega (arith, length-drop from os, room, le)) ∙ omega (arith, le)
-lists_picked _ n from to os new es fs le hi h e same = absurd h
-
-chunks_drop : {A : Type 0} (k a m n : ℕ) (xs : List A) → n ≡ a + m → drop a (chunks k n xs) ≡ chunks k m (drop (a * k) xs)
-chunks_drop k zero m n xs e =
-    let all : n ≡ m = omega (arith, e) in
-    let none : 0 ≡ 0 * k = omega arith in
-    ap (λ j. chunks k j xs) all ∙ ap (λ j. chunks k m (drop j xs)) none
-chunks_drop k (suc a) m zero xs e = absurd (omega (arith, e))
-chunks_drop k (suc a) m (suc n) xs e =
-    let far : k + a * k ≡ suc a * k = omega arith in
-    chunks_drop k a m n (drop k xs) (omega (arith, e)) ∙ ap (chunks k m) (drop-drop (a * k) k xs ∙ ap (λ j. drop j xs) far)
-
-chunks_take : {A : Type 0} (k a n : ℕ) (xs : List A) → a ≤ n → take a (chunks k n xs) ≡ chunks k a (take (a * k) xs)
-chunks_take k zero n xs h = refl
-chunks_take k (suc a) zero xs h = absurd (omega (arith, h))
-chunks_take {A = A} k (suc a) (suc n) xs h =
-    let far : k + a * k ≡ suc a * k = omega arith in
-    let first : take k (take (k + a * k) xs) ≡ take k xs = take-take k (k + a * k) xs (omega arith) in
-    let others : chunks k a (drop k (take (k + a * k) xs)) ≡ take a (chunks k n (drop k xs)) =
-    ap (chunks k a) (drop-take k (a * k) xs) ∙ sym (chunks_take k a n (drop k xs) (omega (arith, h))) in
-    sym (ap (λ j. chunks k (suc a) (take j xs)) (sym far) ∙ ap (λ (c : List A). c ∷ chunks k a (drop k (take (k + a * k) xs))) first ∙ ap (λ (l : List (List A)). take k xs ∷ l) others)
-
-mul_over : (a d w : ℕ) → (a + d) * w ≡ a * w + d * w
-mul_over a d w = omega arith
-
--- the elements of a range of lists of k each
-chunks_range : {A : Type 0} (k n from to : ℕ) (xs : List A) → from ≤ to → to ≤ n
-    → chunks k (to - from) (slice_range xs (from * k) (to * k)) ≡ slice_range (chunks k n xs) from to
-chunks_range k n from to xs le hi =
-    let end : to ≡ from + (to - from) = omega (arith, le) in
-    let size : to * k ≡ from * k + (to - from) * k = ap (λ x. x * k) end ∙ mul_over from (to - from) k in
-    let part : to * k - from * k ≡ (to - from) * k = omega (arith, size) in
-    ap (λ j. chunks k (to - from) (take j (drop (from * k) xs))) part
-    ∙ sym (ap (take (to - from)) (chunks_drop k from (n - from) n xs (omega (arith, le, hi)))
-    ∙ chunks_take k (to - from) (n - from) (drop (from * k) xs) (omega (arith, le, hi)))
-
-pub fixed_room : (t : Term) (n from to k : ℕ) (es : Rc Column Global) → from ≤ to → to ≤ n → IsShaped (FixedLists k es) t n
-    → (from * k ≤ to * k) × (to * k ≤ length es.value.rows)
-fixed_room (fixed_size_list t j nl) n from to k es le hi h =
-    let same : length es.value.rows ≡ n * k = h.1.1 ∙ ap (λ i. n * i) (sym h.0) in
-    (mul-le-mul_right k le, omega (arith, same, mul-le-mul_right k hi))
-fixed_room _ n from to k es le hi h = absurd h
-
-pub fixed_picked : (t : Term) (n from to k : ℕ) (es fs : Rc Column Global) → from ≤ to → to ≤ n → IsShaped (FixedLists k es) t n
-    → IsPickedColumn (span (from * k) (to * k)) es.value fs.value → IsPickedContent t (span from to) n (FixedLists k es) (FixedLists k fs)
-fixed_picked (fixed_size_list t j nl) n from to k es fs le hi h p =
-    let g : List Row → Row = λ rs. list_row (rows_from rs) in
-    let room = fixed_room (fixed_size_list t j nl) n from to k es le hi h in
-    let cut : fs.value.rows ≡ slice_range es.value.rows (from * k) (to * k) =
-    p.rows ∙ picked_range (from * k) (to * k) es.value.rows room.0 room.1 in
-    let end : to ≡ from + (to - from) = omega (arith, le) in
-    let size : to * k ≡ from * k + (to - from) * k = ap (λ x. x * k) end ∙ mul_over from (to - from) k in
-    let long : length fs.value.rows ≡ (to - from) * k =
-    ap length p.rows ∙ length-picked (span (from * k) (to * k)) es.value.rows (span_below (from * k) (to * k) _ room.0 room.1)
-    ∙ span_long (from * k) (to * k) ∙ omega (arith, size) in
-    let all : slice_range (chunks k n es.value.rows) from to ≡ picked (span from to) (chunks k n es.value.rows) =
-    sym (picked_range from to (chunks k n es.value.rows) le (omega (arith, length-chunks k n es.value.rows, hi))) in
     record {
-      shape = (h.0, (p.dtype ∙ h.1.0, long ∙ ap (λ i. i * k) (sym (span_long from to)) ∙ ap (λ i. length (span from to) * i) h.0));
-      rows = ap (λ i. map g (chunks k i fs.value.rows)) (span_long from to) ∙ ap (λ l. map g (chunks k (to - from) l)) cut
-          ∙ ap (map g) (chunks_range k n from to es.value.rows le hi ∙ all) ∙ sym (picked-map g (span from to) (chunks k n es.value.rows));
+      shape = (p.dtype ∙ h.0, p.shape);
+      rows = ap (map g) p.same ∙ sym (picked-map g ps (pieces os es.value.rows));
     }
-fixed_picked _ n from to k es fs le hi h p = absurd h
+lists_picked _ ps n os new es fs h p = absurd h
+
+pub fixed_parts : (t : Term) (n k : ℕ) (es : Rc Column Global) → IsShaped (FixedLists k es) t n
+    → AreStarts (λ i. i * k) n (length es.value.rows)
+fixed_parts (fixed_size_list t j nl) n k es h =
+    let long : length es.value.rows ≡ n * k = h.1.1 ∙ ap (λ i. n * i) (sym h.0) in
+    even_starts k n (length es.value.rows) long
+fixed_parts _ n k es h = absurd h
+
+pub fixed_picked : (t : Term) (ps : List ℕ) (n k : ℕ) (es fs : Rc Column Global) → Below n ps → IsShaped (FixedLists k es) t n
+    → IsPickedColumn (spans (λ i. i * k) ps) es.value fs.value → IsPickedContent t ps n (FixedLists k es) (FixedLists k fs)
+fixed_picked (fixed_size_list t j nl) ps n k es fs b h p =
+    let g : List Row → Row = λ rs. list_row (rows_from rs) in
+    let long : length es.value.rows ≡ n * k = h.1.1 ∙ ap (λ i. n * i) (sym h.0) in
+    let cut = even_picked k n ps es.value.rows fs.value.rows b long p.rows in
+    record {
+      shape = (h.0, (p.dtype ∙ h.1.0, cut.0 ∙ ap (λ i. length ps * i) h.0));
+      rows = ap (map g) cut.1 ∙ sym (picked-map g ps (chunks k n es.value.rows));
+    }
+fixed_picked _ ps n k es fs b h p = absurd h
 
 -- ---- extensions
 
@@ -340,9 +275,6 @@ pub record IsMade (ps : List ℕ) (x : Column) (t : Term) (n : ℕ) (k : Validit
   pub count : n ≡ length (masked k (content_rows c t n))
   pub fit : AllByRecursion (Fits t) (masked k (content_rows c t n))
 
-pub within : (a : Inside) (x : Column) (to : ℕ) → IsArray a → column_of a ≡ x → to ≤ length x.rows → to ≤ a.len
-within a x to h v hi = omega (arith, h.count, ap (λ (x : Column). length x.rows) v, hi)
-
 made_by : (a : Inside) (ps : List ℕ) (k : Validity) (c : Content) → IsArray a → Below a.len ps
     → IsPickedMask ps a.held.validity k → IsPickedContent (term_of a.dtype) ps a.len a.held.content c
     → IsMade ps (column_of a) (term_of a.dtype) (length ps) k c
@@ -360,17 +292,15 @@ made_by a ps k c h b p q =
     }
 
 -- where x is what the array is seen as, and t a copy of its type
-pub made_of : (a : Inside) (x : Column) (from to : ℕ) (t : Term) (k : Validity) (c : Content) → IsArray a
-    → column_of a ≡ x → from ≤ to → to ≤ length x.rows → t ≡ term_of a.dtype
-    → IsPickedMask (span from to) a.held.validity k
-    → IsPickedContent (term_of a.dtype) (span from to) a.len a.held.content c
-    → IsMade (span from to) x t (to - from) k c
-made_of a x from to t k c h v le hi e p q =
-    let ps = span from to in
-    let below : Below a.len ps = span_below from to a.len le (within a x to h v hi) in
-    subst (λ (x : Column). IsMade ps x t (to - from) k c) v
-    (subst (λ (t : Term). IsMade ps (column_of a) t (to - from) k c) (sym e)
-    (subst (λ (n : ℕ). IsMade ps (column_of a) (term_of a.dtype) n k c) (span_long from to) (made_by a ps k c h below p q)))
+pub made_of : (a : Inside) (x : Column) (ps : List ℕ) (t : Term) (n : ℕ) (k : Validity) (c : Content) → IsArray a
+    → column_of a ≡ x → Below (length x.rows) ps → t ≡ term_of a.dtype → n ≡ length ps
+    → IsPickedMask ps a.held.validity k → IsPickedContent (term_of a.dtype) ps a.len a.held.content c
+    → IsMade ps x t n k c
+made_of a x ps t n k c h v b e l p q =
+    let below : Below a.len ps = subst (λ n. Below n ps) (sym (h.count ∙ ap (λ (x : Column). length x.rows) v)) b in
+    subst (λ (x : Column). IsMade ps x t n k c) v
+    (subst (λ (t : Term). IsMade ps (column_of a) t n k c) (sym e)
+    (subst (λ (n : ℕ). IsMade ps (column_of a) (term_of a.dtype) n k c) (sym l) (made_by a ps k c h below p q)))
 
 -- ---- weights
 
@@ -392,3 +322,6 @@ lighter n v (FixedLists k es) = omega arith
 lighter n v (Structs fields) = omega (arith, fewer_nodes (column_nodes fields.items) v)
 lighter n v (Storage a) = omega arith
 lighter n v (Constant c) = omega arith
+
+pub rows_len : (a : Inside) (x : Column) → IsArray a → column_of a ≡ x → length x.rows ≡ a.len
+rows_len a x h v = sym (h.count ∙ ap (λ (x : Column). length x.rows) v)

@@ -5,6 +5,7 @@ pub mod Falls
 pub mod Decoded
 pub mod Answers
 pub mod Makes
+pub mod Taken
 pub mod inner
 pub mod ValidRows
 pub mod PartColumns

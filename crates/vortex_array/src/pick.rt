@@ -1,55 +1,52 @@
-//! Rows of an array from one place up to another, down to the last of its children.
+//! Rows of an array that are picked, down to the last of its children: a range, those that a mask
+//! keeps, or those at places.
 
-ghost use Rattle.std.specs.Prelude.{◌≡◌, ◌-◌, ◌≤◌, length, MatchResult};
+ghost use Rattle.std.specs.Prelude.{◌≡◌, length, IfOk, IsOkUnless, MatchResult, true};
 ghost use Rattle.std.specs.List.{AllByRecursion};
 ghost use Rattle.vortex_types.specs.DTypes.{term_of};
+ghost use Rattle.vortex_leaves.specs.Texts.{AreOffsets};
 ghost use Rattle.vortex_array.specs.Content.{IsMask, IsShaped};
-ghost use Rattle.vortex_array.specs.inner.Picked.{from_on, picked, ArePickedColumns, IsPickedColumn, IsPickedContent, IsPickedMask};
+ghost use Rattle.vortex_array.specs.Taken.{has_pieces};
+ghost use Rattle.vortex_array.specs.inner.Spans.{spans};
+ghost use Rattle.vortex_array.specs.inner.Picked.{ArePickedColumns, IsPickedColumn, IsPickedContent, IsPickedLists, IsPickedMask};
+ghost use Rattle.vortex_array.specs.inner.PickedPlaces.{any_pieces, places_in, start_in, ArePicks, AreParts, RefusesPick};
 
 use crate::error::ArrayError;
 use crate::held::{Array, Content, Held};
+use crate::pick_leaves::{picked_decimals, picked_numbers, picked_texts, picked_truths};
+use crate::pick_parts::{Parts, spread_mask, spread_places, start};
+use crate::pick_rows::{Picks, count};
 use std::alloc::Global;
 use std::rc::Rc;
+use vortex_leaves::Offsets;
 use vortex_mask::Mask;
 use vortex_scalar_value::ScalarValue;
 use vortex_types::DType;
 
-/// The mask of the rows that are picked, which stays shared.
-fn part_of_mask(mask: &Mask, from: usize, to: usize) -> Result<Mask, ArrayError>
-    requires start_le_end { from ≤ to }
-    requires in_bounds { to ≤ length mask.now }
-    ensures { MatchResult result (λ m. m ≡ picked (from_on (to - from) from) mask.now)
-        (λ e. e ≡ ArrayError.OutOfMemory) }
-{
-    match mask.slice(from, to) {
-        Ok(mask) => Ok(mask),
-        Err(_) => Err(ArrayError::OutOfMemory),
-    }
-}
-
 /// The mask of the rows that are picked, where there is one.
 fn picked_mask(
+    alloc: Global,
     validity: &Option<Mask>,
     n: usize,
     nullable: bool,
-    from: usize,
-    to: usize,
+    picks: &Picks,
 ) -> Result<Option<Mask>, ArrayError>
     requires mask { IsMask n nullable validity.now }
-    requires start_le_end { from ≤ to }
-    requires in_bounds { to ≤ n }
-    ensures { MatchResult result (λ v. IsPickedMask (from_on (to - from) from) validity.now v)
+    requires picks { ArePicks n picks.now }
+    ensures { MatchResult result (λ v. IsPickedMask (places_in picks.now) validity.now v)
         (λ e. e ≡ ArrayError.OutOfMemory) }
 {
     let _ = (n, nullable);
     match validity {
         None => Ok(None),
-        Some(mask) => Ok(Some(part_of_mask(mask, from, to)?)),
+        Some(mask) => Ok(Some(picked_truths(alloc, mask, picks)?)),
     }
 }
 
-fn same_value(alloc: Global, value: &ScalarValue) -> Result<ScalarValue, ArrayError>
-    ensures { MatchResult result (λ v. v ≡ value.now) (λ e. e ≡ ArrayError.OutOfMemory) }
+/// The same value, shared.
+pub(crate) fn same_value(alloc: Global, value: &ScalarValue) -> Result<ScalarValue, ArrayError>
+    ensures value { IfOk result (λ v. v ≡ value.now) }
+    ensures memory { IsOkUnless result ArrayError.OutOfMemory }
 {
     match value.try_clone(alloc) {
         Ok(value) => Ok(value),
@@ -67,49 +64,127 @@ fn same_type(alloc: Global, dtype: &DType) -> Result<DType, ArrayError>
     }
 }
 
-/// How the rows that are picked are held. Buffers stay shared.
+/// How the rows that are picked are held. Buffers of a range stay shared.
 #[cycle(pick)]
 fn picked_content(
     alloc: Global,
     dtype: &DType,
     content: &Content,
     n: usize,
-    from: usize,
-    to: usize,
+    picks: &Picks,
 ) -> Result<Content, ArrayError>
     requires shape { IsShaped content.now (term_of dtype.now) n }
-    requires start_le_end { from ≤ to }
-    requires in_bounds { to ≤ n }
+    requires picks { ArePicks n picks.now }
     ensures { MatchResult result
-        (λ c. IsPickedContent (term_of dtype.now) (from_on (to - from) from) n content.now c)
-        (λ e. e ≡ ArrayError.OutOfMemory) }
+        (λ c. IsPickedContent (term_of dtype.now) (places_in picks.now) n content.now c)
+        (RefusesPick picks.now (has_pieces (term_of dtype.now))) }
 {
     match content {
         Content::Nulls => Ok(Content::Nulls),
-        Content::Truths(mask) => Ok(Content::Truths(part_of_mask(mask, from, to)?)),
-        Content::Numbers(numbers) => Ok(Content::Numbers(numbers.slice(from, to)?)),
-        Content::Decimals(decimals) => Ok(Content::Decimals(decimals.slice(from, to)?)),
-        Content::Texts(texts) => Ok(Content::Texts(texts.slice(from, to)?)),
+        Content::Truths(mask) => Ok(Content::Truths(picked_truths(alloc, mask, picks)?)),
+        Content::Numbers(numbers) => {
+            let numbers = picked_numbers(alloc, numbers, picks)?;
+            Ok(Content::Numbers(numbers))
+        }
+        Content::Decimals(decimals) => {
+            let decimals = picked_decimals(alloc, decimals, picks)?;
+            Ok(Content::Decimals(decimals))
+        }
+        Content::Texts(texts) => Ok(Content::Texts(picked_texts(alloc, texts, picks)?)),
         Content::Lists(offsets, elements) => {
-            let offsets = offsets.slice(from, to)?;
-            Ok(Content::Lists(offsets, elements.clone()?))
+            let (offsets, elements) = picked_lists(alloc, offsets, elements, n, picks)?;
+            Ok(Content::Lists(offsets, elements))
         }
         Content::FixedLists(size, elements) => {
             let size = *size;
-            let _rows = elements.len();
-            let width = size as usize;
-            let cut = pick(alloc, elements, from * width, to * width)?;
+            let parts = Parts::Even(size as usize);
+            let cut = picked_elements(alloc, elements, &parts, n, picks)?;
             Ok(Content::FixedLists(size, Rc::new(alloc, cut)?))
         }
         Content::Structs(fields) => {
-            let fields = picked_fields(alloc, fields, n, from, to)?;
+            let fields = picked_fields(alloc, fields, n, picks)?;
             Ok(Content::Structs(fields))
         }
         Content::Storage(array) => {
-            let cut = pick(alloc, array, from, to)?;
+            let cut = pick(alloc, array, picks)?;
             Ok(Content::Storage(Rc::new(alloc, cut)?))
         }
         Content::Constant(value) => Ok(Content::Constant(same_value(alloc, value)?)),
+    }
+}
+
+/// The offsets and elements of the lists that are picked. Elements of a range stay as they are, and
+/// others are joined without gaps.
+#[cycle(pick)]
+fn picked_lists(
+    alloc: Global,
+    offsets: &Offsets,
+    elements: &Rc<Array>,
+    n: usize,
+    picks: &Picks,
+) -> Result<(Offsets, Rc<Array>), ArrayError>
+    requires shape { AreOffsets n (length elements.now.value.rows) offsets.now }
+    requires picks { ArePicks n picks.now }
+    ensures { MatchResult result
+        (λ p. IsPickedLists (places_in picks.now) offsets.now elements.now.value p.0 p.1.value)
+        (RefusesPick picks.now true) }
+{
+    match picks {
+        Picks::Range(from, to) => {
+            let offsets = offsets.slice(*from, *to)?;
+            Ok((offsets, elements.clone()?))
+        }
+        Picks::Mask(mask) => {
+            let joined = offsets.filter(alloc, mask)?;
+            let parts = Parts::Between(offsets);
+            let cut = picked_elements(alloc, elements, &parts, n, picks)?;
+            Ok((joined, Rc::new(alloc, cut)?))
+        }
+        Picks::Places(places) => {
+            elements.law();
+            let Some(joined) = offsets.take(alloc, places)? else {
+                return Err(ArrayError::TooLarge);
+            };
+            let parts = Parts::Between(offsets);
+            let cut = picked_elements(alloc, elements, &parts, n, picks)?;
+            Ok((joined, Rc::new(alloc, cut)?))
+        }
+    }
+}
+
+/// The elements of the lists that are picked, of n lists.
+#[cycle(pick)]
+fn picked_elements(
+    alloc: Global,
+    elements: &Array,
+    parts: &Parts,
+    n: usize,
+    picks: &Picks,
+) -> Result<Array, ArrayError>
+    requires parts { AreParts parts.now n (length elements.now.rows) }
+    requires picks { ArePicks n picks.now }
+    ensures { MatchResult result
+        (IsPickedColumn (spans (start_in parts.now) (places_in picks.now)) elements.now)
+        (RefusesPick picks.now true) }
+{
+    elements.law();
+    let end = elements.len();
+    match picks {
+        Picks::Range(from, to) => {
+            let range = Picks::Range(start(parts, n, end, *from), start(parts, n, end, *to));
+            let cut = pick(alloc, elements, &range)?;
+            Ok(cut)
+        }
+        Picks::Mask(mask) => {
+            let spread = spread_mask(alloc, parts, mask, end)?;
+            let cut = pick(alloc, elements, &Picks::Mask(&spread))?;
+            Ok(cut)
+        }
+        Picks::Places(places) => {
+            let spread = spread_places(alloc, parts, n, end, places)?;
+            let cut = pick(alloc, elements, &Picks::Places(&spread))?;
+            Ok(cut)
+        }
     }
 }
 
@@ -119,49 +194,38 @@ fn picked_fields(
     alloc: Global,
     fields: &[Array],
     n: usize,
-    from: usize,
-    to: usize,
+    picks: &Picks,
 ) -> Result<Vec<Array>, ArrayError>
     requires long { AllByRecursion (λ a. length a.rows ≡ n) fields.now }
-    requires start_le_end { from ≤ to }
-    requires in_bounds { to ≤ n }
+    requires picks { ArePicks n picks.now }
     ensures { MatchResult result
-        (λ v. ArePickedColumns (from_on (to - from) from) fields.now v.items)
-        (λ e. e ≡ ArrayError.OutOfMemory) }
+        (λ v. ArePickedColumns (places_in picks.now) fields.now v.items)
+        (RefusesPick picks.now (any_pieces fields.now)) }
 {
     let mut out = Vec::with_capacity(alloc, fields.len())?;
     let mut rest = fields;
     while let [first, others @ ..] = rest {
-        out.push(pick(alloc, first, from, to)?)?;
+        out.push(pick(alloc, first, picks)?)?;
         rest = others;
     }
     Ok(out)
 }
 
-/// The array of the rows from `from` up to `to`.
+/// The array of the rows that are picked.
 #[cycle(pick)]
-pub(crate) fn pick(
-    alloc: Global,
-    array: &Array,
-    from: usize,
-    to: usize,
-) -> Result<Array, ArrayError>
-    requires start_le_end { from ≤ to }
-    requires in_bounds { to ≤ length array.now.rows }
+pub(crate) fn pick(alloc: Global, array: &Array, picks: &Picks) -> Result<Array, ArrayError>
+    requires { ArePicks (length array.now.rows) picks.now }
     ensures { MatchResult result
-        (λ a. IsPickedColumn (from_on (to - from) from) array.now a)
-        (λ e. e ≡ ArrayError.OutOfMemory) }
+        (λ a. IsPickedColumn (places_in picks.now) array.now a)
+        (RefusesPick picks.now (has_pieces array.now.dtype)) }
 {
     let nullable = array.dtype.is_nullable();
-    let validity = picked_mask(&array.held.validity, array.len, nullable, from, to)?;
-    let content = picked_content(
-        alloc,
-        &array.dtype,
-        &array.held.content,
-        array.len,
-        from,
-        to,
-    )?;
+    let rows = count(array.len, picks);
+    if rows > u32::MAX as usize {
+        return Err(ArrayError::TooLarge);
+    }
+    let validity = picked_mask(alloc, &array.held.validity, array.len, nullable, picks)?;
+    let content = picked_content(alloc, &array.dtype, &array.held.content, array.len, picks)?;
     let dtype = same_type(alloc, &array.dtype)?;
-    Ok(Array::made(dtype, to - from, Held { content, validity }))
+    Ok(Array::made(dtype, rows, Held { content, validity }))
 }

@@ -1,11 +1,17 @@
 //! Parts of arrays.
 
-ghost use Rattle.std.specs.Prelude.{◌≡◌, ◌≤◌, length, slice_range, MatchResult};
+ghost use Rattle.std.specs.Prelude.{◌≡◌, ◌≤◌, ◌<◌, length, slice_range, MatchResult};
+ghost use Rattle.std.specs.List.{AllByRecursion};
+ghost use Rattle.vortex_mask.specs.Truths.{kept};
+ghost use Rattle.vortex_leaves.specs.Selected.{taken_rows};
+ghost use Rattle.vortex_array.specs.Taken.{RefusesTake};
 
 use crate::error::ArrayError;
 use crate::held::Array;
 use crate::pick::pick;
+use crate::pick_rows::Picks;
 use std::alloc::Global;
+use vortex_mask::Mask;
 
 impl Array {
     /// The rows from `from` up to `to`. Buffers stay shared, and the time does not depend on how
@@ -17,7 +23,38 @@ impl Array {
             (λ a. (a.dtype ≡ self.now.dtype) × (a.rows ≡ slice_range self.now.rows from to))
             (λ e. e ≡ ArrayError.OutOfMemory) }
     {
-        let array = pick(alloc, self, from, to)?;
+        let array = pick(alloc, self, &Picks::Range(from, to))?;
+        Ok(array)
+    }
+
+    /// The rows at which the mask is true. Texts and lists are joined without gaps. Where the mask
+    /// is true for all rows, or for none, it is a slice: buffers stay shared.
+    pub fn filter(&self, alloc: Global, mask: &Mask) -> Result<Array, ArrayError>
+        requires { length mask.now ≡ length self.now.rows }
+        ensures { MatchResult result
+            (λ a. (a.dtype ≡ self.now.dtype) × (a.rows ≡ kept mask.now self.now.rows))
+            (λ e. e ≡ ArrayError.OutOfMemory) }
+    {
+        if mask.all_true() {
+            return self.slice(alloc, 0, self.len());
+        }
+        if mask.all_false() {
+            return self.slice(alloc, 0, 0);
+        }
+        let array = pick(alloc, self, &Picks::Mask(mask))?;
+        Ok(array)
+    }
+
+    /// The rows at these places, in their order, each as often as it is named. Texts and lists are
+    /// joined without gaps. It is [`ArrayError::TooLarge`] where more than 4,294,967,295 places are
+    /// named, or where rows that are named more than once have more bytes or elements together.
+    pub fn take(&self, alloc: Global, places: &[u32]) -> Result<Array, ArrayError>
+        requires { AllByRecursion (λ place. place < length self.now.rows) places.now }
+        ensures { MatchResult result
+            (λ a. (a.dtype ≡ self.now.dtype) × (a.rows ≡ taken_rows places.now self.now.rows))
+            (RefusesTake places.now self.now.dtype) }
+    {
+        let array = pick(alloc, self, &Picks::Places(places))?;
         Ok(array)
     }
 }

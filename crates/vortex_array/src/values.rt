@@ -13,6 +13,7 @@ ghost use Rattle.vortex_array.specs.ValuesAt.{AreValuesAt, AreValuesOf};
 use crate::access::is_unmasked;
 use crate::error::ArrayError;
 use crate::held::{Array, Content};
+use crate::pick::same_value;
 use std::alloc::Global;
 use vortex_arithmetic::value_in;
 use vortex_number::PType;
@@ -37,17 +38,6 @@ fn listed(alloc: Global, values: Vec<ScalarValue>) -> Result<ScalarValue, ArrayE
     ensures memory { IsOkUnless result ArrayError.OutOfMemory }
 {
     match ScalarValue::from_list(alloc, values) {
-        Ok(value) => Ok(value),
-        Err(_) => Err(ArrayError::OutOfMemory),
-    }
-}
-
-/// The same value, shared.
-fn shared(alloc: Global, value: &ScalarValue) -> Result<ScalarValue, ArrayError>
-    ensures value { IfOk result (λ v. v ≡ value.now) }
-    ensures memory { IsOkUnless result ArrayError.OutOfMemory }
-{
-    match value.try_clone(alloc) {
         Ok(value) => Ok(value),
         Err(_) => Err(ArrayError::OutOfMemory),
     }
@@ -123,7 +113,7 @@ impl Array {
                 listed(alloc, values)
             }
             Content::Storage(storage) => storage.row_value(alloc, i),
-            Content::Constant(value) => shared(alloc, value),
+            Content::Constant(value) => same_value(alloc, value),
         }
     }
 

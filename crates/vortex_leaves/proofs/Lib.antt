@@ -8,3 +8,4 @@ pub mod KeptRows
 pub mod SelectedNumbers
 pub mod Pieces
 pub mod FromValues
+pub mod Joined

@@ -14,6 +14,7 @@ mod offsets;
 mod offsets_builder;
 mod select_chunks;
 mod select_numbers;
+mod select_offsets;
 mod select_texts;
 mod texts;
 

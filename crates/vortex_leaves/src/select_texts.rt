@@ -1,7 +1,9 @@
 //! Parts of texts.
 
-ghost use Rattle.std.specs.Prelude.{◌≡◌, ◌≤◌, ◌<◌, length, slice_range, MatchResult};
+ghost use Rattle.std.specs.Prelude.{◌≡◌, ◌≤◌, ◌<◌, [], length, slice_index_or, slice_range, IfOk, MatchResult};
+ghost use Rattle.std.specs.List.{All, flat_map};
 ghost use Rattle.vortex_mask.specs.Truths.{kept};
+ghost use Rattle.vortex_leaves.specs.Selected.{taken_pieces, AreJoinedPieces};
 ghost use Rattle.vortex_leaves.specs.Texts.{text_pieces};
 
 use crate::LeafError;
@@ -9,7 +11,7 @@ use crate::buffers::are_bytes;
 use crate::offsets_builder::OffsetsBuilder;
 use crate::texts::Texts;
 use bytes::Bytes;
-use std::alloc::Global;
+use std::alloc::{AllocError, Global};
 use vortex_mask::Mask;
 
 impl Texts {
@@ -48,6 +50,38 @@ impl Texts {
         let bytes = Bytes::from_vec(bytes)?;
         are_bytes(bytes.as_slice());
         Ok(Texts { offsets, bytes })
+    }
+
+    /// The bytes of the pieces at these places, joined. There are so many.
+    fn taken_bytes(&self, alloc: Global, size: usize, places: &[u32]) -> Result<Vec<u8>, AllocError>
+        requires in_range { All (λ place. place < length (text_pieces self.now)) places.now }
+        ensures { IfOk result (λ v. v.items
+            ≡ flat_map (λ place. slice_index_or (text_pieces self.now) place []) places.now) }
+    {
+        let mut bytes = Vec::with_capacity(alloc, size)?;
+        for place in places {
+            bytes.extend_from_slice(self.piece(*place as usize))?;
+        }
+        Ok(bytes)
+    }
+
+    /// The pieces at these places, in their order, joined without gaps. None where they have more
+    /// than 4,294,967,295 bytes together.
+    pub fn take(&self, alloc: Global, places: &[u32]) -> Result<Option<Texts>, LeafError>
+        requires in_range { All (λ place. place < length (text_pieces self.now)) places.now }
+        ensures { MatchResult result
+            (AreJoinedPieces (taken_pieces places.now (text_pieces self.now)))
+            (λ e. e ≡ LeafError.OutOfMemory) }
+    {
+        self.law();
+        let Some(offsets) = self.offsets.take(alloc, places)? else {
+            return Ok(None);
+        };
+        offsets.law();
+        let size = offsets.get(offsets.len()) as usize;
+        let bytes = Bytes::from_vec(self.taken_bytes(alloc, size, places)?)?;
+        are_bytes(bytes.as_slice());
+        Ok(Some(Texts { offsets, bytes }))
     }
 }
 

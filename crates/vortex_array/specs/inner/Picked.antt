@@ -2,10 +2,13 @@
 --     picked                the elements at places
 --     from_on               places that follow one another
 --     IsPickedColumn        the rows at places, under the same type
+--     IsPickedLists         the lists at places, by their offsets and elements
 --     IsPickedContent       the same of how rows are held
 use Rattle.std.specs.Prelude.{◌≡◌, ℕ, zero, suc, List, [], ◌∷◌, Some, None, length}
 use Rattle.vortex_terms.specs.Term.{Term}
+use Rattle.vortex_terms.specs.FromColumns.{pieces}
 use Rattle.vortex_node_rows.specs.RowsOf.{Validity}
+use Rattle.vortex_leaves.specs.Texts.{AreOffsets}
 use Rattle.vortex_array.specs.Column.{Column}
 use Rattle.vortex_array.specs.Content.{content_rows, IsShaped}
 use Rattle.vortex_array.specs.declared.held.Content.{Content}
@@ -42,6 +45,12 @@ abbrev pub IsPickedMask : List ℕ → Validity → Validity → Type 0
 IsPickedMask ps None None = Unit {0}
 IsPickedMask ps (Some m) (Some k) = k ≡ picked ps m
 IsPickedMask ps _ _ = ⊥
+
+-- offsets and elements of the lists at places
+pub record IsPickedLists (ps : List ℕ) (offsets : List ℕ) (old : Column) (new : List ℕ) (es : Column) : Type 0 where
+  pub shape : AreOffsets (length ps) (length es.rows) new
+  pub same : pieces new es.rows ≡ picked ps (pieces offsets old.rows)
+  pub dtype : es.dtype ≡ old.dtype
 
 -- rows at places, held under the same type
 pub record IsPickedContent (t : Term) (ps : List ℕ) (n : ℕ) (old new : Content) : Type 0 where

@@ -1,133 +1,242 @@
-use Rattle.std.proofs.Common.{rules, ◌≡◌, ◌*◌, Fits, w64, length, arith, ◌∙◌, ◌-◌, List, [], ap, subst}
+use Rattle.std.proofs.Common.{rules, ◌≡◌, ◌≤◌, ◌<◌, ◌*◌, ◌^◌, ℕ, length, map, slice_index_or, arith, ◌∙◌, List, [], ap, refl, sym, subst, inr}
+use Rattle.std.specs.List.{sum}
 use Rattle.std.proofs.lemmas.List.{append-nil}
 use Rattle.vortex_types.specs.DTypes.{term_of}
+use Rattle.vortex_node_rows.specs.RowsOf.{most_rows}
+use Rattle.vortex_leaves.specs.Selected.{joined_offsets, size_at}
+use Rattle.vortex_leaves.specs.Texts.{AreOffsets}
 use Rattle.vortex_array.specs.ArrayNode.{array_node_count}
 use Rattle.vortex_array.specs.Column.{Column}
 use Rattle.vortex_array.specs.Content.{column_of, mask_nodes}
-use Rattle.vortex_array.specs.inner.Picked.{ArePickedColumns, IsPickedColumn}
-use Rattle.vortex_array.proofs.PickedContents.{span, span_below, nulls_picked, truths_picked, numbers_picked, decimals_picked, texts_picked, lists_picked, fixed_picked, fixed_room, structs_picked, structs_counted, storage_picked, constant_picked, none_picked, within, lighter, made_of}
+use Rattle.vortex_array.specs.Taken.{has_pieces}
+use Rattle.vortex_array.specs.declared.pick_rows.Picks.{Picks}
+use Rattle.vortex_array.specs.inner.Picked.{ArePickedColumns, IsPickedColumn, IsPickedLists}
+use Rattle.vortex_array.specs.inner.PickedPlaces.{any_pieces, places_in, start_in, ArePicks}
+use Rattle.vortex_array.specs.inner.Spans.{spans}
+use Rattle.vortex_array.proofs.PickedContents.{nulls_picked, truths_picked, numbers_picked, decimals_picked, texts_picked, lists_picked, fixed_picked, structs_picked, structs_counted, storage_picked, constant_picked, none_picked, lighter, made_of, rows_len}
+use Rattle.vortex_array.proofs.PickedParts.{lists_joined, lists_range, offset_starts}
+use Rattle.vortex_array.proofs.PickedRows.{err_is, many_much, picks_below, places_refused, range_cut, range_spans, range_within, refused_more, sizes_much, spans_within, structs_pieces}
 use Rattle.vortex_array.proofs.pick.+pick.Goals as goal
 
 pub pick-made-requires-clause-shape : goal.pick-made-requires-clause-shape
 pick-made-requires-clause-shape t c =
-    (made_of c.array.inside c.args.array.now c.args.from c.args.to (term_of c.in_ok-dtype.dtype)
-    c.in_ok-validity.validity c.in_ok-content.content c.array.invariant c.array.view_is c.requires.start_le_end
-    c.requires.in_bounds c.in_ok-dtype.ensures c.in_ok-validity.ensures c.in_ok-content.ensures).shape
+    (made_of c.array.inside c.args.array.now (places_in c.args.picks.now) (term_of c.in_ok-dtype.dtype) c.count-rows.result
+    c.in_ok-validity.validity c.in_ok-content.content c.array.invariant c.array.view_is
+    (picks_below (length c.args.array.now.rows) c.args.picks.now c.requires)
+    c.in_ok-dtype.ensures c.count-rows.ensures c.in_ok-validity.ensures c.in_ok-content.ensures).shape
 
 pub pick-made-requires-clause-mask : goal.pick-made-requires-clause-mask
 pick-made-requires-clause-mask t c =
-    (made_of c.array.inside c.args.array.now c.args.from c.args.to (term_of c.in_ok-dtype.dtype)
-    c.in_ok-validity.validity c.in_ok-content.content c.array.invariant c.array.view_is c.requires.start_le_end
-    c.requires.in_bounds c.in_ok-dtype.ensures c.in_ok-validity.ensures c.in_ok-content.ensures).mask
+    (made_of c.array.inside c.args.array.now (places_in c.args.picks.now) (term_of c.in_ok-dtype.dtype) c.count-rows.result
+    c.in_ok-validity.validity c.in_ok-content.content c.array.invariant c.array.view_is
+    (picks_below (length c.args.array.now.rows) c.args.picks.now c.requires)
+    c.in_ok-dtype.ensures c.count-rows.ensures c.in_ok-validity.ensures c.in_ok-content.ensures).mask
 
 pub pick-made-requires-clause-count : goal.pick-made-requires-clause-count
 pick-made-requires-clause-count t c =
-    (made_of c.array.inside c.args.array.now c.args.from c.args.to (term_of c.in_ok-dtype.dtype)
-    c.in_ok-validity.validity c.in_ok-content.content c.array.invariant c.array.view_is c.requires.start_le_end
-    c.requires.in_bounds c.in_ok-dtype.ensures c.in_ok-validity.ensures c.in_ok-content.ensures).count
+    (made_of c.array.inside c.args.array.now (places_in c.args.picks.now) (term_of c.in_ok-dtype.dtype) c.count-rows.result
+    c.in_ok-validity.validity c.in_ok-content.content c.array.invariant c.array.view_is
+    (picks_below (length c.args.array.now.rows) c.args.picks.now c.requires)
+    c.in_ok-dtype.ensures c.count-rows.ensures c.in_ok-validity.ensures c.in_ok-content.ensures).count
 
 pub pick-made-requires-clause-fit : goal.pick-made-requires-clause-fit
 pick-made-requires-clause-fit t c =
-    (made_of c.array.inside c.args.array.now c.args.from c.args.to (term_of c.in_ok-dtype.dtype)
-    c.in_ok-validity.validity c.in_ok-content.content c.array.invariant c.array.view_is c.requires.start_le_end
-    c.requires.in_bounds c.in_ok-dtype.ensures c.in_ok-validity.ensures c.in_ok-content.ensures).fit
+    (made_of c.array.inside c.args.array.now (places_in c.args.picks.now) (term_of c.in_ok-dtype.dtype) c.count-rows.result
+    c.in_ok-validity.validity c.in_ok-content.content c.array.invariant c.array.view_is
+    (picks_below (length c.args.array.now.rows) c.args.picks.now c.requires)
+    c.in_ok-dtype.ensures c.count-rows.ensures c.in_ok-validity.ensures c.in_ok-content.ensures).fit
 
 pub pick-returns : goal.pick-returns
 pick-returns t c = record {
   dtype = c.made.ensures.dtype ∙ c.in_ok-dtype.ensures ∙ ap (λ (a : Column). a.dtype) c.array.view_is;
   rows = c.made.ensures.rows
-      ∙ (made_of c.array.inside c.args.array.now c.args.from c.args.to (term_of c.in_ok-dtype.dtype)
-      c.in_ok-validity.validity c.in_ok-content.content c.array.invariant c.array.view_is c.requires.start_le_end
-      c.requires.in_bounds c.in_ok-dtype.ensures c.in_ok-validity.ensures c.in_ok-content.ensures).same;
+      ∙ (made_of c.array.inside c.args.array.now (places_in c.args.picks.now) (term_of c.in_ok-dtype.dtype) c.count-rows.result
+      c.in_ok-validity.validity c.in_ok-content.content c.array.invariant c.array.view_is
+      (picks_below (length c.args.array.now.rows) c.args.picks.now c.requires)
+      c.in_ok-dtype.ensures c.count-rows.ensures c.in_ok-validity.ensures c.in_ok-content.ensures).same;
 }
 
 pub picked_content-returns-in-Nulls : goal.picked_content-returns-in-Nulls
 picked_content-returns-in-Nulls t c =
-    rw c.in-Nulls.is (nulls_picked (term_of c.args.dtype.now) (span c.args.from c.args.to) c.args.n
-    (span_below c.args.from c.args.to c.args.n c.requires.start_le_end c.requires.in_bounds)
-    (rw c.in-Nulls.is at c.requires.shape))
+    rw c.in-Nulls.is (nulls_picked (term_of c.args.dtype.now) (places_in c.args.picks.now) c.args.n
+    (picks_below c.args.n c.args.picks.now c.requires.picks) (rw c.in-Nulls.is at c.requires.shape))
 
-pub picked_content-returns-in_ok-part_of_mask-in-Truths : goal.picked_content-returns-in_ok-part_of_mask-in-Truths
-picked_content-returns-in_ok-part_of_mask-in-Truths t c =
-    rw c.in-Truths.is (truths_picked (term_of c.args.dtype.now) (span c.args.from c.args.to) c.args.n c.in-Truths.mask
-    c.in_ok-part_of_mask-in-Truths.field-0
-    (span_below c.args.from c.args.to c.args.n c.requires.start_le_end c.requires.in_bounds)
-    (rw c.in-Truths.is at c.requires.shape) c.in_ok-part_of_mask-in-Truths.ensures)
+pub picked_content-returns-in_ok-picked_truths-in-Truths : goal.picked_content-returns-in_ok-picked_truths-in-Truths
+picked_content-returns-in_ok-picked_truths-in-Truths t c =
+    rw c.in-Truths.is (truths_picked (term_of c.args.dtype.now) (places_in c.args.picks.now) c.args.n c.in-Truths.mask
+    c.in_ok-picked_truths-in-Truths.field-0 (picks_below c.args.n c.args.picks.now c.requires.picks)
+    (rw c.in-Truths.is at c.requires.shape) c.in_ok-picked_truths-in-Truths.ensures)
 
-pub picked_content-returns-in_ok-same_value-in-Constant : goal.picked_content-returns-in_ok-same_value-in-Constant
-picked_content-returns-in_ok-same_value-in-Constant t c =
-    rw c.in-Constant.is (constant_picked (term_of c.args.dtype.now) (span c.args.from c.args.to) c.args.n
-    c.in-Constant.value c.in_ok-same_value-in-Constant.field-0
-    (span_below c.args.from c.args.to c.args.n c.requires.start_le_end c.requires.in_bounds)
-    (rw c.in-Constant.is at c.requires.shape) c.in_ok-same_value-in-Constant.ensures)
+pub picked_content-returns-in_ok-numbers-in-Numbers : goal.picked_content-returns-in_ok-numbers-in-Numbers
+picked_content-returns-in_ok-numbers-in-Numbers t c =
+    rw c.in-Numbers.is (numbers_picked (term_of c.args.dtype.now) (places_in c.args.picks.now) c.args.n c.in-Numbers.numbers
+    c.in_ok-numbers-in-Numbers.numbers (picks_below c.args.n c.args.picks.now c.requires.picks)
+    (rw c.in-Numbers.is at c.requires.shape) c.in_ok-numbers-in-Numbers.ensures)
+
+pub picked_content-returns-in_ok-decimals-in-Decimals : goal.picked_content-returns-in_ok-decimals-in-Decimals
+picked_content-returns-in_ok-decimals-in-Decimals t c =
+    rw c.in-Decimals.is (decimals_picked (term_of c.args.dtype.now) (places_in c.args.picks.now) c.args.n c.in-Decimals.decimals
+    c.in_ok-decimals-in-Decimals.decimals (picks_below c.args.n c.args.picks.now c.requires.picks)
+    (rw c.in-Decimals.is at c.requires.shape) c.in_ok-decimals-in-Decimals.ensures)
+
+pub picked_content-returns-in_ok-picked_texts-in-Texts : goal.picked_content-returns-in_ok-picked_texts-in-Texts
+picked_content-returns-in_ok-picked_texts-in-Texts t c =
+    rw c.in-Texts.is (texts_picked (term_of c.args.dtype.now) (places_in c.args.picks.now) c.args.n c.in-Texts.texts
+    c.in_ok-picked_texts-in-Texts.field-0 (picks_below c.args.n c.args.picks.now c.requires.picks)
+    (rw c.in-Texts.is at c.requires.shape) c.in_ok-picked_texts-in-Texts.ensures)
 
 pub picked_fields-returns : goal.picked_fields-returns
 picked_fields-returns t c =
-    subst (λ (l : List Column). ArePickedColumns (span c.args.from c.args.to) c.args.fields.now l)
+    subst (λ (l : List Column). ArePickedColumns (places_in c.args.picks.now) c.args.fields.now l)
     (append-nil c.loop-rest.out.items)
-    (c.loop-rest.invariant.same [] (none_picked (span c.args.from c.args.to) c.loop-rest.rest.now c.in_default.len_below))
+    (c.loop-rest.invariant.same [] (none_picked (places_in c.args.picks.now) c.loop-rest.rest.now c.in_default.len_below))
+
+pub pick-returns-then-rows : goal.pick-returns-then-rows
+pick-returns-then-rows t c =
+    let rows : length c.args.array.now.rows ≤ most_rows = omega (arith, c.array.invariant.holds.few, ap (λ (x : Column). length x.rows) c.array.view_is) in
+    let many : most_rows < length (places_in c.args.picks.now) = omega (arith, c.if-rows.true, c.count-rows.ensures) in
+    inr (refl, many_much (length c.args.array.now.rows) c.args.picks.now (has_pieces c.args.array.now.dtype) c.requires rows many)
 
 pub pick-picked_content-requires : goal.pick-picked_content-requires
 pick-picked_content-requires t c =
     let node : array_node_count (column_of c.array.inside).node ≡ array_node_count c.args.array.now.node =
     ap (λ (a : Column). array_node_count a.node) c.array.view_is in (
       omega (arith, lighter c.array.inside.len (mask_nodes c.array.inside.len c.array.inside.held.validity) c.array.inside.held.content, node, c.decreases),
-      (c.array.invariant.shape, (c.requires.start_le_end, within c.array.inside c.args.array.now c.args.to c.array.invariant c.array.view_is c.requires.in_bounds)),
+      (c.array.invariant.shape, subst (λ n. ArePicks n c.args.picks.now) (rows_len c.array.inside c.args.array.now c.array.invariant c.array.view_is) c.requires),
     )
-
-pub picked_content-overflow_mul-from : goal.picked_content-overflow_mul-from
-picked_content-overflow_mul-from t c =
-    let room = fixed_room (term_of c.args.dtype.now) c.args.n c.args.from c.args.to c.in-FixedLists.size c.in-FixedLists.elements c.requires.start_le_end c.requires.in_bounds (rw c.in-FixedLists.is at c.requires.shape) in
-    let rows : Fits w64 c.len-rows.result = search rules in
-    let same : c.len-rows.result ≡ length c.in-FixedLists.elements.value.rows = search rules in
-    omega (arith, room.0, room.1, rows, same)
-
-pub picked_content-overflow_mul-to : goal.picked_content-overflow_mul-to
-picked_content-overflow_mul-to t c =
-    let room = fixed_room (term_of c.args.dtype.now) c.args.n c.args.from c.args.to c.in-FixedLists.size c.in-FixedLists.elements c.requires.start_le_end c.requires.in_bounds (rw c.in-FixedLists.is at c.requires.shape) in
-    let rows : Fits w64 c.len-rows.result = search rules in
-    let same : c.len-rows.result ≡ length c.in-FixedLists.elements.value.rows = search rules in
-    omega (arith, room.0, room.1, rows, same)
 
 pub picked_content-picked_fields-requires : goal.picked_content-picked_fields-requires
 picked_content-picked_fields-requires t c = (
   rw c.deref-in-Structs.ensures.value (omega (arith, rw c.in-Structs.is at c.decreases)),
-  (rw c.deref-in-Structs.ensures.value (structs_counted (term_of c.args.dtype.now) c.args.n c.in-Structs.fields (rw c.in-Structs.is at c.requires.shape)), (c.requires.start_le_end, c.requires.in_bounds)),
+  (rw c.deref-in-Structs.ensures.value (structs_counted (term_of c.args.dtype.now) c.args.n c.in-Structs.fields (rw c.in-Structs.is at c.requires.shape)), c.requires.picks),
 )
 
-pub picked_content-returns-in_ok-slice-in-Numbers : goal.picked_content-returns-in_ok-slice-in-Numbers
-picked_content-returns-in_ok-slice-in-Numbers t c =
-    rw c.in-Numbers.is (numbers_picked (term_of c.args.dtype.now) c.args.n c.args.from c.args.to c.in-Numbers.numbers c.in_ok-slice-in-Numbers.field-0
-    c.requires.start_le_end c.requires.in_bounds (rw c.in-Numbers.is at c.requires.shape) c.in_ok-slice-in-Numbers.ensures)
+pub picked_content-returns-in_err-fields-in-Structs : goal.picked_content-returns-in_err-fields-in-Structs
+picked_content-returns-in_err-fields-in-Structs t c =
+    let shape = rw c.in-Structs.is at c.requires.shape in
+    err_is c.from_residual-in_err-fields-in-Structs.result _ _ c.in_err-fields-in-Structs.field-0.0
+    c.from_residual-in_err-fields-in-Structs.ensures.1
+    (refused_more c.args.picks.now (any_pieces c.deref-in-Structs.result.now) (has_pieces (term_of c.args.dtype.now))
+    c.in_err-fields-in-Structs.field-0.0
+    (λ e. structs_pieces (term_of c.args.dtype.now) c.args.n c.in-Structs.fields shape (ap any_pieces (sym c.deref-in-Structs.ensures.value) ∙ e))
+    c.in_err-fields-in-Structs.ensures)
 
-pub picked_content-returns-in_ok-slice-in-Decimals : goal.picked_content-returns-in_ok-slice-in-Decimals
-picked_content-returns-in_ok-slice-in-Decimals t c =
-    rw c.in-Decimals.is (decimals_picked (term_of c.args.dtype.now) c.args.n c.args.from c.args.to c.in-Decimals.decimals c.in_ok-slice-in-Decimals.field-0
-    c.requires.start_le_end c.requires.in_bounds (rw c.in-Decimals.is at c.requires.shape) c.in_ok-slice-in-Decimals.ensures)
-
-pub picked_content-returns-in_ok-slice-in-Texts : goal.picked_content-returns-in_ok-slice-in-Texts
-picked_content-returns-in_ok-slice-in-Texts t c =
-    rw c.in-Texts.is (texts_picked (term_of c.args.dtype.now) c.args.n c.args.from c.args.to c.in-Texts.texts c.in_ok-slice-in-Texts.field-0
-    c.requires.start_le_end c.requires.in_bounds (rw c.in-Texts.is at c.requires.shape) c.in_ok-slice-in-Texts.ensures)
-
-pub picked_content-returns-in_ok-clone-in-Lists : goal.picked_content-returns-in_ok-clone-in-Lists
-picked_content-returns-in_ok-clone-in-Lists t c =
-    rw c.in-Lists.is (lists_picked (term_of c.args.dtype.now) c.args.n c.args.from c.args.to c.in-Lists.offsets c.in_ok-offsets-in-Lists.offsets
-    c.in-Lists.elements c.in_ok-clone-in-Lists.field-0 c.requires.start_le_end c.requires.in_bounds (rw c.in-Lists.is at c.requires.shape) c.in_ok-offsets-in-Lists.ensures (search rules))
+pub picked_content-returns-in_ok-offsets-in-Lists : goal.picked_content-returns-in_ok-offsets-in-Lists
+picked_content-returns-in_ok-offsets-in-Lists t c =
+    rw c.in-Lists.is (lists_picked (term_of c.args.dtype.now) (places_in c.args.picks.now) c.args.n c.in-Lists.offsets
+    c.in_ok-offsets-in-Lists.offsets c.in-Lists.elements c.in_ok-offsets-in-Lists.elements
+    (rw c.in-Lists.is at c.requires.shape) c.in_ok-offsets-in-Lists.ensures)
 
 pub picked_content-returns-in_ok-new-in-FixedLists : goal.picked_content-returns-in_ok-new-in-FixedLists
 picked_content-returns-in_ok-new-in-FixedLists t c =
-    let cut : IsPickedColumn (span (c.args.from * c.in-FixedLists.size) (c.args.to * c.in-FixedLists.size)) c.in-FixedLists.elements.value c.in_ok-new-in-FixedLists.field-0.value = search rules in
-    rw c.in-FixedLists.is (fixed_picked (term_of c.args.dtype.now) c.args.n c.args.from c.args.to c.in-FixedLists.size c.in-FixedLists.elements
-    c.in_ok-new-in-FixedLists.field-0 c.requires.start_le_end c.requires.in_bounds (rw c.in-FixedLists.is at c.requires.shape) cut)
+    let cut : IsPickedColumn (spans (λ (i : ℕ). i * c.in-FixedLists.size) (places_in c.args.picks.now)) c.in-FixedLists.elements.value c.in_ok-new-in-FixedLists.field-0.value = search rules in
+    rw c.in-FixedLists.is (fixed_picked (term_of c.args.dtype.now) (places_in c.args.picks.now) c.args.n c.in-FixedLists.size
+    c.in-FixedLists.elements c.in_ok-new-in-FixedLists.field-0 (picks_below c.args.n c.args.picks.now c.requires.picks)
+    (rw c.in-FixedLists.is at c.requires.shape) cut)
 
 pub picked_content-returns-in_ok-fields-in-Structs : goal.picked_content-returns-in_ok-fields-in-Structs
 picked_content-returns-in_ok-fields-in-Structs t c =
-    rw c.in-Structs.is (structs_picked (term_of c.args.dtype.now) (span c.args.from c.args.to) c.args.n c.in-Structs.fields c.in_ok-fields-in-Structs.fields (span_below c.args.from c.args.to c.args.n c.requires.start_le_end c.requires.in_bounds)
+    rw c.in-Structs.is (structs_picked (term_of c.args.dtype.now) (places_in c.args.picks.now) c.args.n c.in-Structs.fields
+    c.in_ok-fields-in-Structs.fields (picks_below c.args.n c.args.picks.now c.requires.picks)
     (rw c.in-Structs.is at c.requires.shape) (search rules))
 
 pub picked_content-returns-in_ok-new-in-Storage : goal.picked_content-returns-in_ok-new-in-Storage
 picked_content-returns-in_ok-new-in-Storage t c =
-    let cut : IsPickedColumn (span c.args.from c.args.to) c.in-Storage.array.value c.in_ok-new-in-Storage.field-0.value = search rules in
-    rw c.in-Storage.is (storage_picked (term_of c.args.dtype.now) (span c.args.from c.args.to) c.args.n c.in-Storage.array c.in_ok-new-in-Storage.field-0 (span_below c.args.from c.args.to c.args.n c.requires.start_le_end c.requires.in_bounds)
+    let cut : IsPickedColumn (places_in c.args.picks.now) c.in-Storage.array.value c.in_ok-new-in-Storage.field-0.value = search rules in
+    rw c.in-Storage.is (storage_picked (term_of c.args.dtype.now) (places_in c.args.picks.now) c.args.n c.in-Storage.array
+    c.in_ok-new-in-Storage.field-0 (picks_below c.args.n c.args.picks.now c.requires.picks)
     (rw c.in-Storage.is at c.requires.shape) cut)
+
+pub picked_content-returns-in_ok-same_value-in-Constant : goal.picked_content-returns-in_ok-same_value-in-Constant
+picked_content-returns-in_ok-same_value-in-Constant t c =
+    rw c.in-Constant.is (constant_picked (term_of c.args.dtype.now) (places_in c.args.picks.now) c.args.n c.in-Constant.value
+    c.in_ok-same_value-in-Constant.field-0 (picks_below c.args.n c.args.picks.now c.requires.picks)
+    (rw c.in-Constant.is at c.requires.shape) (search rules))
+
+pub picked_elements-pick-requires-in-Places : goal.picked_elements-pick-requires-in-Places
+picked_elements-pick-requires-in-Places t c = (
+  omega (arith, c.decreases),
+  spans_within (start_in c.args.parts.now) c.args.n (length c.args.elements.now.rows) c.in-Places.places c.args.picks.now
+      c.deref.result.now c.in-Places.is c.requires.picks c.requires.parts.starts (c.deref.ensures.value ∙ c.in_ok-spread-in-Places.ensures),
+)
+
+pub picked_elements-returns-in_err-cut-in-Places : goal.picked_elements-returns-in_err-cut-in-Places
+picked_elements-returns-in_err-cut-in-Places t c =
+    err_is c.from_residual-in_err-cut-in-Places.result _ _ c.in_err-cut-in-Places.field-0.0
+    c.from_residual-in_err-cut-in-Places.ensures.1
+    (places_refused (start_in c.args.parts.now) c.args.n (length c.args.elements.now.rows) c.in-Places.places c.deref.result
+    c.args.picks.now (has_pieces c.args.elements.now.dtype) c.in_err-cut-in-Places.field-0.0 c.in-Places.is c.requires.picks
+    c.requires.parts.starts c.law.ensures.few (c.deref.ensures.value ∙ c.in_ok-spread-in-Places.ensures)
+    c.in_err-cut-in-Places.ensures)
+
+pub picked_elements-returns-in_ok-cut-in-Range : goal.picked_elements-returns-in_ok-cut-in-Range
+picked_elements-returns-in_ok-cut-in-Range t c =
+    range_spans (start_in c.args.parts.now) c.args.n (length c.args.elements.now.rows) c.in-Range.from c.in-Range.to
+    c.args.picks.now c.args.elements.now c.in_ok-cut-in-Range.cut c.in-Range.is c.requires.picks c.requires.parts.starts
+    (range_cut (start_in c.args.parts.now) c.in-Range.from c.in-Range.to c.start.result c.start-in-Range.result
+    c.args.elements.now c.in_ok-cut-in-Range.cut c.start.ensures c.start-in-Range.ensures c.in_ok-cut-in-Range.ensures)
+
+pub picked_lists-picked_elements-requires : goal.picked_lists-picked_elements-requires
+picked_lists-picked_elements-requires t c =
+    let same : c.deref.result.now ≡ c.args.elements.now.value = search rules in (
+      omega (arith, c.decreases, ap (λ (a : Column). array_node_count a.node) same),
+      (
+        record {
+          starts = offset_starts c.args.n (length c.deref.result.now.rows) c.args.offsets.now
+              (subst (λ (a : Column). AreOffsets c.args.n (length a.rows) c.args.offsets.now) (sym same) c.requires.shape);
+          rows = c.requires.shape.count;
+        },
+        c.requires.picks,
+      ),
+    )
+
+pub picked_lists-returns-in_default : goal.picked_lists-returns-in_default
+picked_lists-returns-in_default t c =
+    let large : 2 ^ 32 ≤ sum (map (size_at c.args.offsets.now) c.in-Places.places.now) = search rules in
+    let few : length c.args.elements.now.value.rows ≤ most_rows = search rules in
+    inr (
+      refl,
+      sizes_much (λ (i : ℕ). slice_index_or c.args.offsets.now i 0) c.args.n (length c.args.elements.now.value.rows) c.in-Places.places
+          c.args.picks.now c.in-Places.is c.requires.picks
+          (offset_starts c.args.n (length c.args.elements.now.value.rows) c.args.offsets.now c.requires.shape) few large,
+    )
+
+pub picked_lists-returns-in_ok-clone-in-Range : goal.picked_lists-returns-in_ok-clone-in-Range
+picked_lists-returns-in_ok-clone-in-Range t c =
+    let w = range_within c.args.n c.in-Range.from c.in-Range.to c.args.picks.now c.in-Range.is c.requires.picks in
+    let same : c.in_ok-clone-in-Range.field-0.value ≡ c.args.elements.now.value = search rules in
+    subst (λ (p : Picks). IsPickedLists (places_in p) c.args.offsets.now c.args.elements.now.value c.in_ok-offsets-in-Range.offsets c.in_ok-clone-in-Range.field-0.value)
+    (sym c.in-Range.is)
+    (lists_range c.args.n c.in-Range.from c.in-Range.to c.args.offsets.now c.in_ok-offsets-in-Range.offsets c.args.elements.now.value
+    c.in_ok-clone-in-Range.field-0.value c.requires.shape w.0 w.1 c.in_ok-offsets-in-Range.ensures same)
+
+pub picked_lists-returns-in_ok-new-in-Mask : goal.picked_lists-returns-in_ok-new-in-Mask
+picked_lists-returns-in_ok-new-in-Mask t c =
+    let cut : IsPickedColumn (spans (λ (i : ℕ). slice_index_or c.args.offsets.now i 0) (places_in c.args.picks.now)) c.args.elements.now.value c.in_ok-new-in-Mask.field-0.value = search rules in
+    lists_joined c.args.n c.args.offsets.now (places_in c.args.picks.now) _ c.args.elements.now.value
+    c.in_ok-new-in-Mask.field-0.value c.requires.shape (picks_below c.args.n c.args.picks.now c.requires.picks)
+    (c.joined.view_is ∙ c.in_ok-joined-in-Mask.ensures
+    ∙ ap (λ (p : Picks). joined_offsets (map (size_at c.args.offsets.now) (places_in p))) (sym c.in-Mask.is)) cut
+
+pub picked_lists-picked_elements-requires-in-Places : goal.picked_lists-picked_elements-requires-in-Places
+picked_lists-picked_elements-requires-in-Places t c =
+    let same : c.deref-in-Places-2.result.now ≡ c.args.elements.now.value = c.deref-in-Places-2.ensures in (
+      omega (arith, c.decreases, ap (λ (a : Column). array_node_count a.node) same),
+      (
+        record {
+          starts = offset_starts c.args.n (length c.deref-in-Places-2.result.now.rows) c.args.offsets.now
+              (subst (λ (a : Column). AreOffsets c.args.n (length a.rows) c.args.offsets.now) (sym same) c.requires.shape);
+          rows = c.requires.shape.count;
+        },
+        c.requires.picks,
+      ),
+    )
+
+pub picked_lists-returns-in_ok-new-in-Places : goal.picked_lists-returns-in_ok-new-in-Places
+picked_lists-returns-in_ok-new-in-Places t c =
+    let cut : IsPickedColumn (spans (λ (i : ℕ). slice_index_or c.args.offsets.now i 0) (places_in c.args.picks.now)) c.args.elements.now.value c.in_ok-new-in-Places.field-0.value = search rules in
+    let from : c.in-Some.joined ≡ joined_offsets (map (size_at c.args.offsets.now) c.in-Places.places.now) = search rules in
+    lists_joined c.args.n c.args.offsets.now (places_in c.args.picks.now) _ c.args.elements.now.value
+    c.in_ok-new-in-Places.field-0.value c.requires.shape (picks_below c.args.n c.args.picks.now c.requires.picks)
+    (c.joined-in-Places.view_is ∙ from
+    ∙ ap (λ (p : Picks). joined_offsets (map (size_at c.args.offsets.now) (places_in p))) (sym c.in-Places.is)) cut

@@ -191,8 +191,8 @@ row_value-returns-in_ok-values-in-Structs-clause-value t c =
 
 pub row_value-returns-in-Constant-clause-value : goal.row_value-returns-in-Constant-clause-value
 row_value-returns-in-Constant-clause-value t c =
-    ok_then c.shared.result (λ (v : ValueTerm). v ≡ c.in-Constant.value) (λ (v : ValueTerm). row_of c.args.self.now.dtype v ≡ slice_get c.args.self.now.rows c.args.i)
-    c.shared.ensures.value (λ (v : ValueTerm) e.
+    ok_then c.same_value.result (λ (v : ValueTerm). v ≡ c.in-Constant.value) (λ (v : ValueTerm). row_of c.args.self.now.dtype v ≡ slice_get c.args.self.now.rows c.args.i)
+    c.same_value.ensures.value (λ (v : ValueTerm) e.
     shown_value c.self.inside c.args.self.now c.args.i v c.self.invariant c.self.view_is c.requires
     (sym c.if-not-is_unmasked.ensures) (constant_value (term_of c.self.inside.dtype) c.self.inside.len c.args.i c.self.inside.held.content c.in-Constant.value v c.in-Constant.is c.self.invariant.shape
     (place_below c.self.inside c.args.self.now c.args.i c.self.invariant c.self.view_is c.requires) e))
