@@ -5,8 +5,7 @@ use std::alloc::Global;
 use vortex_names::{ExtID, ExtMetadata, Nullability};
 use vortex_number::PType;
 use vortex_time::{
-    DATE_ID, TIME_ID, TIMESTAMP_ID, TemporalError, TemporalMetadata, TimeUnit,
-    is_temporal_ext_type,
+    DATE_ID, TIME_ID, TIMESTAMP_ID, TemporalError, TemporalMetadata, TimeUnit, is_temporal_ext_type,
 };
 use vortex_types::{DType, ExtDType};
 
@@ -84,9 +83,30 @@ fn metadata_is_read(rt: HostRuntime) {
     assert_eq!(rt; tag(rt.alloc(), DATE_ID, &[4]), Some(4));
     assert_eq!(rt; tag(rt.alloc(), DATE_ID, &[5]), None);
     assert!(rt; is_stamp(rt.alloc(), &[3, 0, 0, 9], TimeUnit::Seconds, None));
-    assert!(rt; is_stamp(rt.alloc(), &[2, 1, 0, 90], TimeUnit::Milliseconds, Some("Z")));
-    assert!(rt; is_stamp(rt.alloc(), &[1, 1, 0, 90, 255], TimeUnit::Microseconds, Some("Z")));
-    assert!(rt; !is_stamp(rt.alloc(), &[1, 0, 1, 90, 255], TimeUnit::Microseconds, Some("Z")));
+    assert!(rt;
+        is_stamp(
+            rt.alloc(),
+            &[2, 1, 0, 90],
+            TimeUnit::Milliseconds,
+            Some("Z")
+        )
+    );
+    assert!(rt;
+        is_stamp(
+            rt.alloc(),
+            &[1, 1, 0, 90, 255],
+            TimeUnit::Microseconds,
+            Some("Z")
+        )
+    );
+    assert!(rt;
+        !is_stamp(
+            rt.alloc(),
+            &[1, 0, 1, 90, 255],
+            TimeUnit::Microseconds,
+            Some("Z")
+        )
+    );
 }
 
 #[test]
@@ -129,7 +149,11 @@ fn units_have_tags_and_texts(rt: HostRuntime) {
 /// The seconds, the days and the nanoseconds of a span of so many units.
 fn parts(unit: TimeUnit, v: i64) -> Option<[i64; 3]> {
     let span: Span = unit.to_jiff_span(v).ok()?;
-    Some([span.get_seconds(), span.get_days() as i64, span.get_nanoseconds()])
+    Some([
+        span.get_seconds(),
+        span.get_days() as i64,
+        span.get_nanoseconds(),
+    ])
 }
 
 #[test]
@@ -138,11 +162,20 @@ fn spans_have_limits(rt: HostRuntime) {
     assert_eq!(rt; parts(TimeUnit::Days, 5_000_001), None);
     assert_eq!(rt; parts(TimeUnit::Days, -5_000_000), Some([0, -5_000_000, 0]));
     assert_eq!(rt; parts(TimeUnit::Days, -5_000_001), None);
-    assert_eq!(rt; parts(TimeUnit::Seconds, 400_000_000_000), Some([400_000_000_000, 0, 0]));
+    assert_eq!(rt;
+        parts(TimeUnit::Seconds, 400_000_000_000),
+        Some([400_000_000_000, 0, 0])
+    );
     assert_eq!(rt; parts(TimeUnit::Seconds, 400_000_000_001), None);
     assert_eq!(rt; parts(TimeUnit::Milliseconds, -400_000_000_000_001), None);
-    assert_eq!(rt; parts(TimeUnit::Microseconds, 400_000_000_000_000_001), None);
-    assert_eq!(rt; parts(TimeUnit::Nanoseconds, 9_000_000_000_000_000_001), None);
+    assert_eq!(rt;
+        parts(TimeUnit::Microseconds, 400_000_000_000_000_001),
+        None
+    );
+    assert_eq!(rt;
+        parts(TimeUnit::Nanoseconds, 9_000_000_000_000_000_001),
+        None
+    );
     assert_eq!(rt; parts(TimeUnit::Nanoseconds, i64::MIN), None);
     assert_eq!(rt; parts(TimeUnit::Nanoseconds, -7), Some([0, 0, -7]));
 }

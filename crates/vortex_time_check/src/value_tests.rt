@@ -63,15 +63,50 @@ fn dates_end_with_the_years(rt: HostRuntime) {
 fn timestamps_in_no_zone(rt: HostRuntime) {
     let before = "1969-12-31T23:59:59.999999999";
     assert!(rt; shows(rt.alloc(), TIMESTAMP_ID, &[0, 0, 0], -1, before));
-    assert!(rt; shows(rt.alloc(), TIMESTAMP_ID, &[1, 0, 0], -1, "1969-12-31T23:59:59.999999"));
-    assert!(rt; shows(rt.alloc(), TIMESTAMP_ID, &[2, 0, 0], -1, "1969-12-31T23:59:59.999"));
-    assert!(rt; shows(rt.alloc(), TIMESTAMP_ID, &[3, 0, 0], -1, "1969-12-31T23:59:59"));
+    assert!(rt;
+        shows(
+            rt.alloc(),
+            TIMESTAMP_ID,
+            &[1, 0, 0],
+            -1,
+            "1969-12-31T23:59:59.999999"
+        )
+    );
+    assert!(rt;
+        shows(
+            rt.alloc(),
+            TIMESTAMP_ID,
+            &[2, 0, 0],
+            -1,
+            "1969-12-31T23:59:59.999"
+        )
+    );
+    assert!(rt;
+        shows(
+            rt.alloc(),
+            TIMESTAMP_ID,
+            &[3, 0, 0],
+            -1,
+            "1969-12-31T23:59:59"
+        )
+    );
     let last = "9999-12-31T23:59:59";
     assert!(rt; shows(rt.alloc(), TIMESTAMP_ID, &[3, 0, 0], 253_402_300_799, last));
     let first = "-009999-01-01T00:00:00";
-    assert!(rt; shows(rt.alloc(), TIMESTAMP_ID, &[3, 0, 0], -377_705_116_800, first));
+    assert!(rt;
+        shows(
+            rt.alloc(),
+            TIMESTAMP_ID,
+            &[3, 0, 0],
+            -377_705_116_800,
+            first
+        )
+    );
     assert_eq!(rt; refusal(TIMESTAMP_ID, Some(&[3, 0, 0]), 253_402_300_800), 9);
-    assert_eq!(rt; refusal(TIMESTAMP_ID, Some(&[3, 0, 0]), -377_705_116_801), 9);
+    assert_eq!(rt;
+        refusal(TIMESTAMP_ID, Some(&[3, 0, 0]), -377_705_116_801),
+        9
+    );
     assert_eq!(rt; refusal(TIMESTAMP_ID, Some(&[4, 0, 0]), 0), 7);
 }
 

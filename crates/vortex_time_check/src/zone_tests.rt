@@ -32,7 +32,12 @@ fn start(alloc: Global, length: usize) -> [usize; 4] {
     match written(alloc, length) {
         Ok(metadata) => match metadata.as_slice() {
             [unit, low, high, rest @ ..] => {
-                [3 + rest.len(), *unit as usize, *low as usize, *high as usize]
+                [
+                    3 + rest.len(),
+                    *unit as usize,
+                    *low as usize,
+                    *high as usize,
+                ]
             }
             _ => [0; 4],
         },
@@ -108,10 +113,22 @@ fn instants_in_zones(rt: HostRuntime) {
     assert_eq!(rt; refusal(rt.alloc(), TimeUnit::Seconds, 0, false), 8);
     assert_eq!(rt; refusal(rt.alloc(), TimeUnit::Days, 0, false), 7);
     assert_eq!(rt; refusal(rt.alloc(), TimeUnit::Days, 0, true), 7);
-    assert_eq!(rt; refusal(rt.alloc(), TimeUnit::Seconds, 253_402_207_200, true), 0);
-    assert_eq!(rt; refusal(rt.alloc(), TimeUnit::Seconds, 253_402_207_201, true), 9);
-    assert_eq!(rt; refusal(rt.alloc(), TimeUnit::Seconds, -377_705_023_201, true), 0);
-    assert_eq!(rt; refusal(rt.alloc(), TimeUnit::Seconds, -377_705_023_202, true), 9);
+    assert_eq!(rt;
+        refusal(rt.alloc(), TimeUnit::Seconds, 253_402_207_200, true),
+        0
+    );
+    assert_eq!(rt;
+        refusal(rt.alloc(), TimeUnit::Seconds, 253_402_207_201, true),
+        9
+    );
+    assert_eq!(rt;
+        refusal(rt.alloc(), TimeUnit::Seconds, -377_705_023_201, true),
+        0
+    );
+    assert_eq!(rt;
+        refusal(rt.alloc(), TimeUnit::Seconds, -377_705_023_202, true),
+        9
+    );
     assert_eq!(rt; Timestamp::MAX.as_second(), 253_402_207_200);
     assert_eq!(rt; Timestamp::MIN.as_second(), -377_705_023_201);
 }
@@ -126,7 +143,7 @@ fn epoch_shows(alloc: Global, rule: &str, text: &str) -> bool {
 
 #[test]
 fn the_epoch_west_of_greenwich(rt: HostRuntime) {
-    let text = "1969-12-31T19:00:00-05:00[EST5EDT,M3.2.0,M11.1.0]";
+    let text = "1969-12-31T19:00:00-05:00[-05:00]";
     assert!(rt; epoch_shows(rt.alloc(), "EST5EDT,M3.2.0,M11.1.0", text));
 }
 
