@@ -1,9 +1,0 @@
-//! Tests of times.
-#![tactic(auto)]
-
-#[cfg(test)]
-mod metadata_tests;
-#[cfg(test)]
-mod value_tests;
-#[cfg(test)]
-mod zone_tests;
