@@ -1,0 +1,4 @@
+pub mod Taken
+pub mod Found
+pub mod Limits
+pub mod Listed
