@@ -1,5 +1,5 @@
 -- What is found in values.
-use Rattle.std.proofs.Common.{◌≡◌, ℕ, zero, suc, ◌+◌, ◌-◌, ◌≤◌, ◌<◌, true, false, List, [], ◌∷◌, ◌++◌, get_or, drop, length, Option, Some, None, option_map, refl, sym, ap, subst, ◌∙◌, arith, add-one, append_assoc, append-nil, ◌⊎◌, inl, inr}
+use Rattle.std.proofs.Common.{◌≡◌, ℕ, zero, suc, ◌+◌, ◌-◌, ◌≤◌, ◌<◌, true, false, List, [], ◌∷◌, ◌++◌, get_or, drop, length, Option, Some, None, option_map, refl, sym, ap, ◌∙◌, arith, add-one, append_assoc, append-nil, ◌⊎◌, inl, inr}
 use Rattle.std.proofs.Math.Seq.{drop-cons}
 use Rattle.std.proofs.lemmas.List.{drop_all}
 use Rattle.vortex_prelude.specs.Chain.{◌>>=◌}

@@ -2,3 +2,4 @@ pub mod Taken
 pub mod Found
 pub mod Limits
 pub mod Listed
+pub mod Again

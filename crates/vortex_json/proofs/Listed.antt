@@ -1,6 +1,6 @@
 -- Values that are listed one after the other.
-use Rattle.std.proofs.Common.{◌≡◌, ℕ, zero, suc, ◌+◌, ◌≤◌, ◌<◌, List, [], ◌∷◌, ◌++◌, get_or, drop, length, Option, Some, refl, sym, ap, ◌∙◌, arith, add-one}
-use Rattle.std.specs.Prelude.{slice_get}
+use Rattle.std.proofs.Common.{◌≡◌, ℕ, zero, suc, ◌+◌, ◌≤◌, ◌<◌, List, [], ◌∷◌, ◌++◌, get_or, drop, length, Some, refl, sym, ap, ◌∙◌, arith, add-one}
+use Rattle.std.specs.Prelude.{slice_get, map}
 use Rattle.std.proofs.Math.Seq.{drop-cons}
 use Rattle.std.proofs.lemmas.List.{drop_all as drop_all_of}
 use Rattle.serde_json.specs.Data.{Data, Items, no_items, item}
@@ -87,3 +87,8 @@ written_on {A} write xs vs v i x lt e h =
 pub written_all : {A : Type 0} → (write : A → Data) (xs : List A) (vs : List Value) (i : ℕ) → length xs ≤ i → Written write xs i vs → items_view vs ≡ each_json write xs
 written_all {A} write xs vs i l h =
     sym (then-none (items_view vs)) ∙ sym (ap (λ (ys : List A). then (items_view vs) (each_json write ys)) (drop_all_of i xs l)) ∙ h
+
+-- what each is seen as is written
+pub each_seen : {A B : Type 0} → (see : A → B) (write : B → Data) (xs : List A) → each_json (λ x. write (see x)) xs ≡ each_json write (map see xs)
+each_seen see write [] = refl
+each_seen see write (x ∷ xs) = ap (item (write (see x))) (each_seen see write xs)

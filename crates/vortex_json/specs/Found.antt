@@ -188,12 +188,19 @@ type_found d = type_in most_levels d >>= λ t. if is_within t then Some t else N
 
 -- ---- paths
 
+-- the step of this name, to which nothing belongs
+abbrev pub element_found : List ℕ → Option PathPart
+element_found name = if bytes_eq name (codes "ElementType") then Some element else None
+
+-- the step of the kind of this name, to which d belongs
+unfoldable pub name_found : List ℕ → Data → Option PathPart
+name_found name d = do
+  x ← as_str d
+  if bytes_eq name (codes "Name") then Some (by_name x) else None
+
 abbrev pub part_found : Data → Option PathPart
-part_found (json.string s) = if bytes_eq s (codes "ElementType") then Some element else None
-part_found (json.object ms) = do
-  named ← only_member ms
-  x ← as_str named.1
-  if bytes_eq named.0 (codes "Name") then Some (by_name x) else None
+part_found (json.string s) = element_found s
+part_found (json.object ms) = only_member ms >>= λ p. name_found p.0 p.1
 part_found _ = None
 
 abbrev pub path_found : Data → Option (List PathPart)

@@ -1,4 +1,5 @@
-use Rattle.std.proofs.Common.{◌+◌, sym, subst, ap, ◌∙◌, arith}
+use Rattle.std.proofs.Common.{◌+◌, List, sym, subst, ap, ◌∙◌, arith}
+use Rattle.serde_json.specs.declared.value.Value.{Value}
 use Rattle.vortex_terms.specs.Weight.{field-lighter}
 use Rattle.vortex_types.specs.TypeRefs.{fields_term, ref_term}
 use Rattle.vortex_json.specs.Written.{owned_json, types_json}
@@ -13,7 +14,7 @@ type_values-type_value-requires t c =
 pub type_values-loop-i-preserved : goal.type_values-loop-i-preserved
 type_values-loop-i-preserved t c =
     let fs = fields_term c.args.fields in
-    subst (Lay types_json fs (c.loop-i.i + 1)) (sym c.in_ok-push.ensures.items)
+    subst (Lay types_json fs (c.loop-i.i + 1)) (sym {A = List Value} c.in_ok-push.ensures.items)
     (types_on fs c.loop-i.dtypes.items c.in_ok-owned_value.field-0 (ref_term c.field_type.result) c.loop-i.i c.field_type.ensures (c.in_ok-owned_value.ensures ∙ ap owned_json c.in_ok-dtype.ensures) c.loop-i.invariant)
 
 pub type_values-returns : goal.type_values-returns
