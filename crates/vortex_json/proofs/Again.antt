@@ -5,7 +5,7 @@ use Rattle.std.specs.Cmp.{first_so, second_so}
 use Rattle.std.proofs.lemmas.Bool.{lt-ltb, eq-eqb}
 use borrow.Author.Differences.{le_T}
 use Rattle.serde_json.specs.Find.{as_str, of_integer}
-use Rattle.serde_json.specs.Data.{Data, Items}
+use Rattle.serde_json.specs.Data.{Data}
 use Rattle.serde_json.specs.Data as json
 use Rattle.vortex_terms.specs.Term.{WholeKind, unsigned_8, unsigned_16, unsigned_32, unsigned_64, signed_8, signed_16, signed_32, signed_64, Term, null, boolean, primitive, decimal, utf8, binary, structure, list, extension, fixed_size_list, Fields, no_fields, field}
 use Rattle.vortex_terms.specs.Types.{names_of, types_of, levels, fields_levels, IsBytes, IsDecimal, Legal, LegalFields, Bounded}

@@ -14,7 +14,7 @@ ghost use Rattle.vortex_json.specs.Found.{bare_found, decimal_found, decimal_of,
 ghost use Rattle.vortex_json.specs.Found.{extension_found, fixed_size_list_found, list_found};
 ghost use Rattle.vortex_json.specs.Found.{metadata_found, named_found, owned_found};
 ghost use Rattle.vortex_json.specs.Found.{primitive_found, structure_found, term_found};
-ghost use Rattle.vortex_json.specs.Found.{type_found, type_in, types_found};
+ghost use Rattle.vortex_json.specs.Found.{type_found, type_in};
 
 use crate::lists::{read_bytes, read_names};
 use crate::parts::{
