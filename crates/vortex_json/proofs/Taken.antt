@@ -47,10 +47,6 @@ pub kind_back : (o : Option WholeKind) (p : PType) → Some p ≡ option_map pty
 kind_back None p e = absurd (cc)
 kind_back (Some k) p e = some_kind k p e
 
-pub no_kind : (o : Option WholeKind) → None ≡ option_map ptype_of o → o ≡ None
-no_kind None e = refl
-no_kind (Some k) e = absurd (cc)
-
 -- a list has another number of items than two, or has two
 pub not_two : (vs : List Value) → (length vs ≡ 2 → ⊥) → None ≡ two_items (items_view vs)
 not_two [] h = refl
