@@ -1,0 +1,5 @@
+pub mod Taken
+pub mod Found
+pub mod Limits
+pub mod Listed
+pub mod Again

@@ -1,0 +1,4 @@
+pub mod Written
+pub mod Found
+pub mod Answers
+pub mod inner
