@@ -1,5 +1,9 @@
-//! Tests of arrays from bodies.
+//! Tests of arrays: from bodies, by their constructors, and what is in them.
 #![tactic(auto)]
 
+#[cfg(test)]
+mod made_tests;
+#[cfg(test)]
+mod nested;
 #[cfg(test)]
 mod tests;
