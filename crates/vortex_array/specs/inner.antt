@@ -3,3 +3,4 @@ pub mod Masks
 pub mod Spans
 pub mod PickedPlaces
 pub mod ComparedRows
+pub mod AlikeRows

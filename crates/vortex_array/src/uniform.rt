@@ -1,17 +1,26 @@
 //! Arrays whose rows are all one row, as far as that is known without a look at each.
 
-ghost use Rattle.std.specs.Prelude.{◌≡◌, ◌||◌, not, IsTrue};
-ghost use Rattle.std.specs.List.{list_all};
-ghost use Rattle.vortex_array.specs.inner.ComparedRows.{AllAlike, AreAlike};
+ghost use Rattle.std.specs.Prelude.{◌≡◌, IsTrue};
+ghost use Rattle.vortex_array.specs.inner.AlikeRows.{are_even, is_even, AllAlike, AreAlike};
 
 use crate::held::{Array, Content};
 use vortex_mask::Mask;
 
 /// Whether all truth values are the same.
 fn is_even(mask: &Mask) -> bool
-    ensures { result ≡ (list_all (λ b. b) mask.now || list_all not mask.now) }
+    ensures { result ≡ are_even mask.now }
 {
     mask.all_true() || mask.all_false()
+}
+
+/// Whether the mask hides all rows or none.
+fn is_even_validity(validity: &Option<Mask>) -> bool
+    ensures { result ≡ is_even validity.now }
+{
+    match validity {
+        Some(mask) => is_even(mask),
+        None => true,
+    }
 }
 
 impl Array {
@@ -21,10 +30,8 @@ impl Array {
     pub(crate) fn is_uniform(&self) -> bool
         ensures { IsTrue result → AreAlike self.now.rows }
     {
-        if let Some(mask) = &self.held.validity {
-            if !is_even(mask) {
-                return false;
-            }
+        if !is_even_validity(&self.held.validity) {
+            return false;
         }
         match &self.held.content {
             Content::Nulls => true,

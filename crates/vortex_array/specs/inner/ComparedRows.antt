@@ -7,13 +7,12 @@
 --     rows_at              the rows of columns at a place
 --     rows_beside          the rows that values are, each under the type of a column
 --     HaveRows             each of them is one
---     AreAlike             all rows are one row
-use Rattle.std.specs.Prelude.{◌≡◌, ◌&&◌, ◌||◌, ℕ, not, Bool, List, [], ◌∷◌, map, length, slice_index_or}
+use Rattle.std.specs.Prelude.{◌≡◌, ◌&&◌, ◌||◌, ℕ, not, Bool, List, [], ◌∷◌, map, slice_index_or}
 use Rattle.std.specs.Option.{IsSome}
 use Rattle.std.specs.declared.cmp.Ordering.{Ordering}
 use Rattle.std.specs.Ordering.{nat_cmp, int_cmp, bool_cmp}
 use Rattle.std.specs.Cmp.Lexicographic.{slice_cmp}
-use Rattle.vortex_terms.specs.Row.{Row, null_row, truth_row, whole_row, bytes_row, Rows, no_rows, row, form_of, is_null, copies}
+use Rattle.vortex_terms.specs.Row.{Row, null_row, truth_row, whole_row, bytes_row, Rows, no_rows, row, form_of, is_null}
 use Rattle.vortex_terms.specs.Order.{row_cmp, form_number}
 use Rattle.vortex_value.specs.Operator.{bears}
 use Rattle.vortex_value.specs.declared.operator.Operator.{Operator}
@@ -66,12 +65,3 @@ HaveRows [] [] = Unit {0}
 HaveRows [] (v ∷ vs) = ⊥
 HaveRows (c ∷ cs) [] = ⊥
 HaveRows (c ∷ cs) (v ∷ vs) = IsSome (row_of c.dtype v) × HaveRows cs vs
-
--- all rows are one row
-abbrev pub AreAlike : List Row → Type 0
-AreAlike rs = (r : Row) × (rs ≡ copies (length rs) r)
-
--- the rows of each column are one row
-abbrev pub AllAlike : List Column → Type 0
-AllAlike [] = Unit {0}
-AllAlike (c ∷ cs) = AreAlike c.rows × AllAlike cs
