@@ -108,18 +108,23 @@ pub storage_alike : (c : Content) (t : Term) (n : ℕ) (rs : List Row) → conte
     → AreAlike (content_rows c t n)
 storage_alike c t n rs e h = subst AreAlike (sym e) h
 
-take_copies : {A : Type 0} (k m : ℕ) (x : A) → take k (replicate (k + m) x) ≡ replicate k x
-take_copies zero m x = refl
-take_copies {A = A} (suc k) m x = ap (λ (l : List A). x ∷ l) (take_copies k m x)
+take_copies : {A : Type 0} (k m n : ℕ) (x : A) → n ≡ k + m → take k (replicate n x) ≡ replicate k x
+take_copies zero m n x e = refl
+take_copies (suc k) m zero x e = absurd (omega (arith, e))
+take_copies {A = A} (suc k) m (suc n) x e = ap (λ (l : List A). x ∷ l) (take_copies k m n x (omega (arith, e)))
 
-drop_copies : {A : Type 0} (k m : ℕ) (x : A) → drop k (replicate (k + m) x) ≡ replicate m x
-drop_copies zero m x = refl
-drop_copies (suc k) m x = drop_copies k m x
+drop_copies : {A : Type 0} (k m n : ℕ) (x : A) → n ≡ k + m → drop k (replicate n x) ≡ replicate m x
+drop_copies zero m n x e =
+    let same : n ≡ m = omega (arith, e) in
+    ap (λ (j : ℕ). replicate j x) same
+drop_copies (suc k) m zero x e = absurd (omega (arith, e))
+drop_copies (suc k) m (suc n) x e = drop_copies k m n x (omega (arith, e))
 
 chunk_copies : (k n : ℕ) (r : Row) → chunks k n (replicate (n * k) r) ≡ replicate n (replicate k r)
 chunk_copies k zero r = refl
 chunk_copies k (suc n) r =
-    (λ i. take_copies k (n * k) r i ∷ chunks k n (drop_copies k (n * k) r i))
+    let more : suc n * k ≡ k + n * k = omega arith in
+    (λ i. take_copies k (n * k) (suc n * k) r more i ∷ chunks k n (drop_copies k (n * k) (suc n * k) r more i))
     ∙ ap (λ (l : List (List Row)). replicate k r ∷ l) (chunk_copies k n r)
 
 chunks_alike : (k n : ℕ) (rs : List Row) → length rs ≡ n * k → AreAlike rs → Alike (chunks k n rs)

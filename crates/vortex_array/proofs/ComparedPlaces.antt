@@ -23,8 +23,9 @@ use Rattle.vortex_value_rows.proofs.Walks.{list_is, inside_some, inside_is}
 use Rattle.vortex_leaves.proofs.Rising.{piece_there}
 use Rattle.vortex_leaves.specs.Numbers.{NumberBytes, number_rows}
 use Rattle.vortex_leaves.specs.Texts.{TextBytes, text_pieces}
+use Rattle.vortex_array.specs.ArrayNode.{ArrayNodes, array_node_count}
 use Rattle.vortex_array.specs.Column.{Column}
-use Rattle.vortex_array.specs.Content.{content_rows, column_of, column_rows, IsArray, IsShaped, AreFields}
+use Rattle.vortex_array.specs.Content.{content_node, content_rows, column_of, column_rows, mask_nodes, IsArray, IsShaped, AreFields}
 use Rattle.vortex_array.specs.ValidRows.{valid_at}
 use Rattle.vortex_array.specs.declared.held.Content.{Content}
 use Rattle.vortex_array.specs.declared.held.Content.TheVariants.{Nulls, Truths, Numbers, Decimals, Texts, Lists, FixedLists, Structs, Storage, Constant}
@@ -117,6 +118,10 @@ pub record IsShown (a : Inside) (c : Column) (i : ℕ) : Type 0 where
   pub view : column_of a ≡ c
   pub below : i < length c.rows
   pub valid : valid_at a.held.validity i ≡ true
+
+pub shown : (a : Inside) (c : Column) (i : ℕ) → IsArray a → column_of a ≡ c → i < length c.rows
+    → true ≡ valid_at a.held.validity i → IsShown a c i
+shown a c i h is below e = record { array = h; view = is; below = below; valid = sym e }
 
 abbrev pub rows_of : Inside → List Row
 rows_of a = content_rows a.held.content (term_of a.dtype) a.len
@@ -448,6 +453,33 @@ shown_structs a c i cs vs v o h e k is =
     shown_order a c i (list_row (rows_at i cs)) (row_under c.dtype v) o h e
     (is ∙ ap (row_cmp (list_row (rows_at i cs))) (sym k.row))
 
+-- lists are behind what is none
+map_there : {A B : Type 0} (f : A → B) (xs : List A) (i : ℕ) (d : A) → i < length (map f xs)
+    → slice_get (map f xs) i ≡ Some (f (get_or xs i d))
+map_there f xs i d h =
+    slice_get-map f xs i ∙ ap (option_map f) (slice_get-get_or xs i d (subst (λ k. i < k) (length-map xs f) h))
+
+pub lists_greater : (a : Inside) (c : Column) (i : ℕ) (p : List ℕ × Column) (x : RowRef) (v : ValueTerm) → IsShown a c i
+    → lists_in a.held.content ≡ Some p → IsHeld c.dtype x v → ((vs : Bor (List ValueTerm)) → x ≡ refs.List vs → ⊥)
+    → Greater ≡ row_cmp (row_in c.rows i) (row_under c.dtype v)
+lists_greater a c i p x v h e k other =
+    let rows = (lists_are a.len p a.held.content (term_of a.dtype) e h.array.shape).rows in
+    let below : i < length (list_rows p.0 p.1.rows) =
+    subst (λ (l : List Row). i < length l) rows (content_below a c i h.view h.below) in
+    shown_greater a c i (rows_from (get_or (pieces p.0 p.1.rows) i [])) x v h
+    (ap (λ (l : List Row). slice_get l i) rows
+    ∙ map_there (λ rs. list_row (rows_from rs)) (pieces p.0 p.1.rows) i [] below) k other
+
+pub fixed_greater : (a : Inside) (c : Column) (i : ℕ) (p : ℕ × Column) (x : RowRef) (v : ValueTerm) → IsShown a c i
+    → fixed_in a.held.content ≡ Some p → IsHeld c.dtype x v → ((vs : Bor (List ValueTerm)) → x ≡ refs.List vs → ⊥)
+    → Greater ≡ row_cmp (row_in c.rows i) (row_under c.dtype v)
+fixed_greater a c i p x v h e k other = shown_greater a c i _ x v h (fixed_at a c i p h e) k other
+
+pub structs_greater : (a : Inside) (c : Column) (i : ℕ) (cs : List Column) (x : RowRef) (v : ValueTerm) → IsShown a c i
+    → fields_in a.held.content ≡ Some cs → AllByRecursion (λ (f : Column). i < length f.rows) cs → IsHeld c.dtype x v
+    → ((vs : Bor (List ValueTerm)) → x ≡ refs.List vs → ⊥) → Greater ≡ row_cmp (row_in c.rows i) (row_under c.dtype v)
+structs_greater a c i cs x v h e all k other = shown_greater a c i (rows_at i cs) x v h (structs_at a c i cs h e all) k other
+
 -- ---- storage
 
 storage_row : (c : Content) (s : Column) (t : Term) (n : ℕ) (v : ValueTerm) → storage_in c ≡ Some s → IsShaped c t n
@@ -504,3 +536,25 @@ storage_order a c s i v o h e is =
     ∙ slice_get-get_or s.rows i null_row (storage_below a c s i h.view e h.below) in
     shown_order a c i (row_in s.rows i) (row_under c.dtype v) o h there
     (is ∙ ap (λ (o : Option Row). row_cmp (row_in s.rows i) (unwrap_or o null_row)) (sym (storage_value a c s v h.array h.view e)))
+
+storage_counted : (c : Content) (s : Column) (n : ℕ) (v : ArrayNodes) → storage_in c ≡ Some s
+    → array_node_count s.node < array_node_count (content_node c n v)
+storage_counted Nulls s n v e = absurd (none_some s e)
+storage_counted (Truths m) s n v e = absurd (none_some s e)
+storage_counted (Numbers a) s n v e = absurd (none_some s e)
+storage_counted (Decimals a) s n v e = absurd (none_some s e)
+storage_counted (Texts a) s n v e = absurd (none_some s e)
+storage_counted (Lists os es) s n v e = absurd (none_some s e)
+storage_counted (FixedLists j es) s n v e = absurd (none_some s e)
+storage_counted (Structs cs) s n v e = absurd (none_some s e)
+storage_counted (Storage a) s n v e =
+    let is : array_node_count a.value.node ≡ array_node_count s.node =
+    ap (λ (b : Column). array_node_count b.node) (same a.value s e) in
+    omega (arith, is)
+storage_counted (Constant x) s n v e = absurd (none_some s e)
+
+pub storage_lighter : (a : Inside) (c s : Column) → column_of a ≡ c → storage_in a.held.content ≡ Some s
+    → array_node_count s.node < array_node_count c.node
+storage_lighter a c s is e =
+    subst (λ (c : Column). array_node_count s.node < array_node_count c.node) is
+    (storage_counted a.held.content s a.len (mask_nodes a.len a.held.validity) e)

@@ -1,6 +1,7 @@
 -- What comparing the rows of an array with a scalar answers, by the masks of truth values that it is made of.
 use Rattle.std.specs.Prelude.{not, ◌&&◌, ◌||◌, slice_get, if◌then◌else◌}
 use Rattle.std.proofs.Common.{◌≡◌, ◌∙◌, ◌<◌, ◌+◌, ◌++◌, ℕ, zero, suc, List, [], ◌∷◌, Bool, true, false, IsTrue, Some, None, map, length, replicate, take, refl, sym, ap, subst, arith, true≢false}
+use Rattle.std.proofs.lemmas.List.{length-map}
 use Rattle.std.specs.List.{list_all, list_any, AllByRecursion}
 use Rattle.vortex_names.specs.Nullable.{is_nullable, nullability_of, either}
 use Rattle.vortex_names.specs.declared.nullable.Nullability.{Nullability}
@@ -210,3 +211,11 @@ any_more ts us b first now next is before here rise more h = by (list_any (λ b.
     by : (c : Bool) → list_any (λ b. b) ts ≡ c → first < next
     by true e = omega (arith, before e, more)
     by false e = omega (arith, here (any_next ts b (ap (list_any (λ b. b)) (sym is) ∙ h) e), rise)
+
+-- ---- the lengths of masks
+
+pub known_count : (s : Row) (rs : List Row) (m : List Bool) → m ≡ known_rows s rs → length m ≡ length rs
+known_count s rs m e = ap length e ∙ length-map rs (known_row s)
+
+pub truths_count : (o : Operator) (s : Row) (rs : List Row) (m : List Bool) → m ≡ row_truths o s rs → length m ≡ length rs
+truths_count o s rs m e = ap length e ∙ length-map rs (row_truth o s)

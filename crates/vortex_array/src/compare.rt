@@ -3,6 +3,7 @@
 ghost use Rattle.std.specs.Prelude.{◌≡◌, ◌+◌, ◌≤◌, ◌<◌, length, map, true, false, IfErr, IfOk, IsOkUnless, IsTrue, Some};
 ghost use Rattle.std.specs.Option.{IsSome};
 ghost use Rattle.std.specs.List.{list_all, list_any};
+ghost use Rattle.vortex_names.specs.Nullable.{is_nullable};
 ghost use Rattle.vortex_terms.specs.Equality.{is_same};
 ghost use Rattle.vortex_terms.specs.FromColumns.{masked};
 ghost use Rattle.vortex_terms.specs.Row.{truth_row, is_null};
@@ -10,6 +11,7 @@ ghost use Rattle.vortex_terms.specs.Term.{boolean};
 ghost use Rattle.vortex_node_rows.specs.RowsOf.{most_rows};
 ghost use Rattle.vortex_value_rows.specs.RowOf.{row_of, row_under};
 ghost use Rattle.vortex_array.specs.Compared.{has_true, refusal_of, IsCompared};
+ghost use Rattle.vortex_array.specs.inner.Masks.{IsTaken};
 ghost use Rattle.vortex_array.specs.inner.ComparedRows.{known_rows, row_in, row_truth, row_truths};
 
 use crate::error::ArrayError;
@@ -17,24 +19,38 @@ use crate::held::{Array, Content, Held};
 use std::alloc::Global;
 use std::sync::ledger::Ledger;
 use vortex_mask::{Mask, MaskBuilder};
+use vortex_names::Nullability;
 use vortex_scalar::Scalar;
 use vortex_scalar_value::ScalarValue;
 use vortex_steps::Steps;
 use vortex_types::DType;
 use vortex_value::Operator;
 
+/// The mask that is kept of one that is true everywhere under a type that is not nullable.
+fn kept_mask(len: usize, nullability: Nullability, known: Mask) -> Option<Mask>
+    requires long { length known ≡ len }
+    requires bare { is_nullable nullability ≡ false → list_all (λ b. b) known ≡ true }
+    ensures { IsTaken len (is_nullable nullability) (Some known) result }
+{
+    let _ = len;
+    match nullability {
+        Nullability::Nullable => Some(known),
+        Nullability::NonNullable => None,
+    }
+}
+
 /// Truth values, null where the second mask is false.
-fn held_truths(nullable: bool, truths: Mask, known: Mask) -> Array
+fn held_truths(nullability: Nullability, truths: Mask, known: Mask) -> Array
     requires few { length truths ≤ most_rows }
     requires long { length known ≡ length truths }
-    requires bare { nullable ≡ false → list_all (λ b. b) known ≡ true }
-    ensures dtype { result.dtype ≡ boolean nullable }
+    requires bare { is_nullable nullability ≡ false → list_all (λ b. b) known ≡ true }
+    ensures dtype { result.dtype ≡ boolean (is_nullable nullability) }
     ensures rows { result.rows ≡ masked (Some known) (map truth_row truths) }
 {
     let len = truths.len();
-    let validity = if nullable { Some(known) } else { None };
+    let validity = kept_mask(len, nullability, known);
     let content = Content::Truths(truths);
-    Array::made(DType::Bool(nullable.into()), len, Held { content, validity })
+    Array::made(DType::Bool(nullability), len, Held { content, validity })
 }
 
 impl Array {
@@ -167,7 +183,7 @@ impl Array {
         scalar.law();
         let known = self.known(alloc, scalar)?;
         let truths = self.truths(alloc, scalar, operator, steps)?;
-        let nullable = self.dtype.is_nullable() || scalar.dtype().is_nullable();
-        Ok(held_truths(nullable, truths, known))
+        let nullability = self.dtype.nullability() | scalar.dtype().nullability();
+        Ok(held_truths(nullability, truths, known))
     }
 }
