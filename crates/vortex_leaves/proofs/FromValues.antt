@@ -1,21 +1,20 @@
 -- Values that are written one behind the other, and read again.
-use Rattle.std.proofs.Common.{◌≡◌, ◌≤◌, ◌<◌, ◌+◌, ◌-◌, ◌*◌, ◌^◌, ℕ, ℤ, pos, zero, suc, List, [], ◌∷◌, ◌++◌, Bool, true, IsTrue, map, length, take, drop, get_or, refl, sym, ap, ◌∙◌, arith, subst, length-append}
+use Rattle.std.proofs.Common.{◌≡◌, ◌<◌, ◌+◌, ◌-◌, ◌*◌, ℕ, ℤ, pos, suc, List, [], ◌∷◌, ◌++◌, true, IsTrue, map, length, take, drop, get_or, refl, sym, ap, ◌∙◌, arith, subst, length-append}
 use Rattle.std.specs.List.{AllByRecursion, flat_map}
 use Rattle.std.specs.Int.{byte_len, w32}
-use Rattle.std.specs.Simd.{first_chunks}
 use Rattle.std.proofs.lemmas.Bool.{ltb-true}
 use Rattle.std.proofs.lemmas.List.{length-map, take_at, drop_at, take_more, append-nil}
 use Rattle.std.proofs.lemmas.Grind.{flat_map-append}
-use Rattle.vortex_number.specs.Format.{Format, unsigned, fits, bits_of, bytes_of, number_with_bytes, number_of_le_bytes}
+use Rattle.vortex_number.specs.Format.{Format, unsigned, fits, bits_of, bytes_of}
 use Rattle.vortex_number.specs.inner.FormatLaws.{number_with_bytes-bytes_of, number_of_le_bytes-le_bytes, length-le_bytes}
 use Rattle.vortex_value.specs.declared.decimal.DecimalValueType.{DecimalValueType}
 use Rattle.vortex_value.specs.declared.decimal.DecimalValueType.TheVariants as width
 use Rattle.vortex_value.specs.DecimalValue.{decimal_format as width_format}
 use Rattle.vortex_terms.specs.Types.{IsBytes}
-use Rattle.vortex_terms.specs.Row.{Row, whole_row}
+use Rattle.vortex_terms.specs.Row.{whole_row}
 use Rattle.vortex_node_rows.specs.Leaves.{numbers_in}
 use Rattle.vortex_node_rows.specs.Buffers.{never_fall, numbers_32}
-use Rattle.vortex_leaves.specs.Numbers.{NumberBytes, AreNumbers}
+use Rattle.vortex_leaves.specs.Numbers.{AreNumbers}
 use Rattle.vortex_leaves.specs.Selected.{AreNumbersOf}
 use Rattle.vortex_leaves.specs.Texts.{HoldOffsets}
 

@@ -1,4 +1,4 @@
-use Rattle.std.proofs.Common.{◌≡◌, ◌≤◌, ◌<◌, ◌+◌, ◌-◌, ◌∙◌, Fits, w32, length, take, rules, sym, refl, arith}
+use Rattle.std.proofs.Common.{◌<◌, ◌+◌, ◌-◌, ◌∙◌, Fits, w32, length, take, rules, sym, refl, arith}
 use Rattle.vortex_mask.specs.Truths.{places_of}
 use Rattle.vortex_leaves.specs.Selected.{size_at}
 use Rattle.vortex_leaves.proofs.Joined.{joined_last, filtered_fits, filtered_no, filtered_yes}

@@ -1,6 +1,5 @@
 use Rattle.vortex_leaves.proofs.Pieces.{texts_made}
 use Rattle.vortex_leaves.proofs.texts.Texts.from_parts.Goals as goal
-use Rattle.std.proofs.Common.{refl}
 
 pub invariant_of-result : goal.invariant_of-result
 invariant_of-result c =

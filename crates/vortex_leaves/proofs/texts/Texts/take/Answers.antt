@@ -1,7 +1,7 @@
-use Rattle.std.proofs.Common.{rules, ◌≡◌, ◌^◌, ◌≤◌, List, ℕ, map}
+use Rattle.std.proofs.Common.{rules, ◌≡◌, ◌^◌, ◌≤◌, map}
 use Rattle.std.specs.List.{sum}
 use Rattle.vortex_leaves.specs.Selected.{joined_offsets, size_at}
-use Rattle.vortex_leaves.proofs.Joined.{held_bounds, held_large, held_taken}
+use Rattle.vortex_leaves.proofs.Joined.{held_large, held_taken}
 use Rattle.vortex_leaves.proofs.texts.Texts.take.Goals as goal
 
 pub returns-in_default : goal.returns-in_default
