@@ -1,6 +1,6 @@
 -- Places of which none stands twice: what is in the rows at them is no more than what is in all rows.
-use Rattle.std.proofs.Common.{◌≡◌, ◌≢◌, ◌≤◌, ◌<◌, ◌+◌, ◌-◌, ◌⊎◌, inl, inr, ℕ, zero, suc, List, [], ◌∷◌, ◌++◌, Bool, true, false, map, length, refl, sym, ap, subst, ◌∙◌, arith, length-append}
-use Rattle.std.specs.List.{AllByRecursion, flat_map}
+use Rattle.std.proofs.Common.{◌≡◌, ◌≢◌, ◌≤◌, ◌<◌, ◌+◌, ◌-◌, ◌⊎◌, inl, inr, ℕ, zero, suc, List, [], ◌∷◌, ◌++◌, length, refl, ap, arith}
+use Rattle.std.specs.List.{AllByRecursion}
 use Rattle.vortex_array.specs.Taken.{StandsIn, Repeats}
 use Rattle.vortex_array.specs.inner.Picked.{from_on}
 use Rattle.vortex_array.specs.inner.Spans.{spans, AreStarts}

@@ -1,9 +1,9 @@
 -- What is picked of how rows are held is how the rows that are picked are held.
-use Rattle.std.proofs.Common.{◌≡◌, ◌≤◌, ◌<◌, ◌+◌, ◌-◌, ◌*◌, ℕ, zero, suc, List, [], ◌∷◌, Bool, Some, None, map, length, take, drop, refl, sym, ap, subst, ◌∙◌, arith, mul-le-mul_right, Vec, Global}
+use Rattle.std.proofs.Common.{◌≡◌, ◌≤◌, ◌<◌, ◌-◌, ◌*◌, ℕ, suc, List, [], ◌∷◌, Bool, Some, None, map, length, sym, ap, subst, ◌∙◌, arith, Vec, Global}
 use Rattle.std.specs.declared.rc.Rc.{Rc}
-use Rattle.std.specs.Prelude.{slice_range, if◌then◌else◌}
+use Rattle.std.specs.Prelude.{if◌then◌else◌}
 use Rattle.std.specs.List.{AllByRecursion}
-use Rattle.std.proofs.lemmas.List.{length-map, length-replicate, length-take-le, length-drop, drop-drop, take-take, drop-take}
+use Rattle.std.proofs.lemmas.List.{length-map, length-replicate}
 use Rattle.vortex_terms.specs.Term.{Term, null, boolean, primitive, decimal, utf8, binary, structure, list, extension, fixed_size_list, Fields, no_fields, field}
 use Rattle.vortex_terms.specs.Row.{Row, null_row, truth_row, bytes_row, list_row, no_rows, row, rows_from, copies}
 use Rattle.vortex_terms.specs.Fits.{Fits}
@@ -20,7 +20,6 @@ use Rattle.vortex_leaves.specs.Numbers.{NumberBytes, number_rows}
 use Rattle.vortex_leaves.specs.Texts.{AreOffsets, TextBytes, text_pieces}
 use Rattle.vortex_leaves.specs.Selected.{AreNumbersOf}
 use Rattle.vortex_leaves.proofs.Rising.{length-first_chunks, length-pieces}
-use Rattle.vortex_leaves.proofs.Pieces.{pieces_range, offsets_range}
 use Rattle.vortex_array.specs.Column.{Column}
 use Rattle.vortex_array.specs.ArrayNode.{array_node_count, ArrayNode, ArrayNodes, no_array_nodes, array_nodes_count, array_nodes_before}
 use Rattle.vortex_array.specs.Content.{column_nodes, content_node, content_rows, column_rows, column_of, AreFields, is_maskable, IsMask, IsShaped, IsArray}

@@ -1,16 +1,16 @@
 -- What is in the rows that are picked: pieces between offsets, and pieces of one length.
-use Rattle.std.proofs.Common.{◌≡◌, ◌≤◌, ◌<◌, ◌+◌, ◌-◌, ◌*◌, ℕ, zero, suc, List, [], ◌∷◌, ◌++◌, Bool, true, map, length, take, drop, get_or, refl, sym, ap, subst, ◌∙◌, arith, length-append, mul-le-mul_right}
+use Rattle.std.proofs.Common.{◌≡◌, ◌≤◌, ◌<◌, ◌+◌, ◌-◌, ◌*◌, ℕ, zero, suc, List, [], ◌∷◌, ◌++◌, true, map, length, take, drop, get_or, refl, sym, ap, subst, ◌∙◌, arith, length-append, mul-le-mul_right}
 use Rattle.std.specs.Prelude.{slice_range}
 use Rattle.std.specs.List.{AllByRecursion, flat_map}
 use Rattle.std.proofs.lemmas.List.{length-take, length-drop, take_at, drop_at, drop-drop}
 use Rattle.vortex_terms.specs.Row.{Row}
-use Rattle.vortex_terms.specs.FromColumns.{pieces, last_from}
+use Rattle.vortex_terms.specs.FromColumns.{pieces}
 use Rattle.vortex_node_rows.specs.Buffers.{rises_from}
 use Rattle.vortex_node_rows.specs.Pieces.{chunks}
 use Rattle.vortex_node_rows.proofs.Lists.{length-chunks}
 use Rattle.vortex_leaves.specs.Texts.{AreOffsets}
 use Rattle.vortex_leaves.specs.Selected.{joined_offsets, size_at}
-use Rattle.vortex_leaves.proofs.Rising.{step, least_last, length-pieces}
+use Rattle.vortex_leaves.proofs.Rising.{step, length-pieces}
 use Rattle.vortex_leaves.proofs.Pieces.{pieces_range, offsets_range}
 use Rattle.vortex_leaves.proofs.Joined.{joined_are_offsets, length-joined, offset_last, piece_size, pieces_get, pieces_joined}
 use Rattle.vortex_array.specs.Column.{Column}

@@ -1,17 +1,16 @@
 -- What is picked of rows, by which rows are picked.
-use Rattle.std.proofs.Common.{◌≡◌, ◌≤◌, ◌<◌, ◌+◌, ◌-◌, ◌^◌, ◌⊎◌, inl, inr, ℕ, zero, suc, List, [], ◌∷◌, ◌++◌, Bool, true, false, Some, take, map, length, get_or, refl, sym, ap, subst, ◌∙◌, arith, length-append, Bor, Vec, Global}
+use Rattle.std.proofs.Common.{◌≡◌, ◌≤◌, ◌<◌, ◌+◌, ◌-◌, ◌^◌, inl, inr, ℕ, zero, suc, List, [], ◌∷◌, ◌++◌, Bool, true, false, Some, take, map, length, get_or, refl, sym, ap, subst, ◌∙◌, arith, length-append, Bor, Vec, Global}
 use Rattle.std.specs.Prelude.{slice_get, slice_range, ◌||◌, Result, Ok, Err, IsErrAnd, MatchResult}
-use Rattle.std.specs.List.{All, AllByRecursion, flat_map, sum}
+use Rattle.std.specs.List.{All, flat_map, sum}
 use Rattle.std.proofs.lemmas.List.Elements.{All-from_get_or}
 use Rattle.std.proofs.lemmas.List.Sums.{sum_by-cons}
-use Rattle.vortex_terms.specs.Row.{Row, null_row}
+use Rattle.vortex_terms.specs.Row.{null_row}
 use Rattle.vortex_node_rows.specs.RowsOf.{most_rows}
-use Rattle.vortex_number.specs.Format.{Format}
 use Rattle.vortex_mask.specs.Truths.{kept, places_from, places_of}
 use Rattle.vortex_leaves.specs.Numbers.{NumberBytes, number_rows}
 use Rattle.vortex_leaves.specs.Selected.{AreNumbersOf, taken_rows}
 use Rattle.vortex_array.specs.declared.error.ArrayError.{ArrayError}
-use Rattle.vortex_array.specs.declared.error.ArrayError.TheVariants.{OutOfMemory, TooLarge}
+use Rattle.vortex_array.specs.declared.error.ArrayError.TheVariants.{OutOfMemory}
 use Rattle.vortex_array.specs.declared.pick_rows.Picks.{Picks}
 use Rattle.vortex_array.specs.declared.pick_rows.Picks.TheVariants.{Range, Mask, Places}
 use Rattle.vortex_array.specs.Column.{Column}
@@ -30,8 +29,8 @@ use Rattle.vortex_array.proofs.Distinct.{much_repeats, spans_repeat}
 use Rattle.std.proofs.lemmas.List.{take_more, append-nil, append_assoc}
 use Rattle.std.proofs.lemmas.Grind.{flat_map-append}
 use Rattle.std.proofs.lemmas.Option.{get_or_from_slice_get}
-use Rattle.vortex_leaves.specs.Texts.{AreOffsets, AreTexts, TextBytes, text_pieces}
-use Rattle.vortex_leaves.specs.Selected.{joined_offsets, size_at, taken_pieces}
+use Rattle.vortex_leaves.specs.Texts.{AreTexts, TextBytes, text_pieces}
+use Rattle.vortex_leaves.specs.Selected.{size_at, taken_pieces}
 use Rattle.vortex_leaves.proofs.Joined.{length-joined}
 
 -- ---- places

@@ -1,6 +1,5 @@
 //! What constructors of arrays share.
 
-ghost use Rattle.std.specs.Prelude.{◌≡◌};
 ghost use Rattle.vortex_array.specs.inner.Masks.{TakesMask};
 
 use crate::error::ArrayError;

@@ -1,7 +1,6 @@
 //! Arrays of texts and bytes, of one scalar, and of nulls.
 
-ghost use Rattle.std.specs.Prelude.{◌≡◌, ◌≤◌, ◌-◌, IsTrue, length, map, MatchResult, Ok};
-ghost use Rattle.std.specs.Option.{option_map};
+ghost use Rattle.std.specs.Prelude.{◌≡◌, ◌-◌, IsTrue, length, map, MatchResult, Ok};
 ghost use Rattle.vortex_terms.specs.Row.{bytes_row};
 ghost use Rattle.vortex_terms.specs.FromColumns.{pieces};
 ghost use Rattle.vortex_types.specs.DTypes.{term_of};
