@@ -343,7 +343,7 @@ inside_there n i (c ∷ cs) below h =
     zip_there row c.rows (inside_structs n (column_rows cs)) i (row_in c.rows i) (rows_at i cs)
     (slice_get-get_or c.rows i null_row h.0) (inside_there n i cs below h.1)
 
-fields_rows : (c : Content) (cs : List Column) (t : Term) (n : ℕ) → fields_in c ≡ Some cs
+pub fields_rows : (c : Content) (cs : List Column) (t : Term) (n : ℕ) → fields_in c ≡ Some cs
     → content_rows c t n ≡ struct_rows n (column_rows cs)
 fields_rows Nulls cs t n e = absurd (none_some cs e)
 fields_rows (Truths m) cs t n e = absurd (none_some cs e)

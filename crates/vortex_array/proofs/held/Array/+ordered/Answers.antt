@@ -35,12 +35,12 @@ row_order-returns-in-Nulls t c =
 
 pub row_order-returns-in-Truths : goal.row_order-returns-in-Truths
 row_order-returns-in-Truths t c =
-    shown_leaf c.self.inside c.args.self.now c.args.i (truth_row c.value.result) c.row_ref-other.result c.args.value.now c.truth_order-in-Truths.result
+    shown_leaf c.self.inside c.args.self.now c.args.i (truth_row c.value.result) c.row_ref-other.result c.args.value.now c.truth_order.result
     (shown c.self.inside c.args.self.now c.args.i c.self.invariant c.self.view_is c.requires.place c.if-not-is_unmasked.ensures)
     (truths_at c.self.inside c.args.self.now c.args.i c.in-Truths.mask c.value.result (shown c.self.inside c.args.self.now c.args.i c.self.invariant c.self.view_is c.requires.place c.if-not-is_unmasked.ensures) c.in-Truths.is c.value.ensures)
     (own_held c.self.inside c.args.self.now (ref_term c.type_ref.result) c.row_ref-other.result c.args.value.now c.self.view_is c.type_ref.ensures
     c.row_ref-other.ensures c.requires.row)
-    tt c.truth_order-in-Truths.ensures
+    tt c.truth_order.ensures
 
 pub row_order-returns-in-Numbers : goal.row_order-returns-in-Numbers
 row_order-returns-in-Numbers t c =
@@ -121,40 +121,40 @@ row_order-returns-in_default-other-2 t c =
     c.row_ref-other.ensures c.requires.row)
     c.in_default-other-2.not-List
 
-pub row_order-rows_order-requires-in-FixedLists : goal.row_order-rows_order-requires-in-FixedLists
-row_order-rows_order-requires-in-FixedLists t c =
-    let is = (ap fixed_in c.in-FixedLists.is ∙ ap (λ (e : Column). Some (c.in-FixedLists.size, e)) (sym c.deref-in-FixedLists.ensures)) in
-    let within = fixed_within (term_of c.self.inside.dtype) c.self.inside.len c.args.i c.self.inside.held.content (c.in-FixedLists.size, c.deref-in-FixedLists.result.now) is c.self.invariant.shape (place_below c.self.inside c.args.self.now c.args.i c.self.invariant c.self.view_is c.requires.place) in
-    let inside = (fixed_inside c.self.inside c.args.self.now (c.in-FixedLists.size, c.deref-in-FixedLists.result.now) c.row_ref-other.result c.in-List-other.values c.args.value.now c.self.invariant c.self.view_is (ap fixed_in c.in-FixedLists.is ∙ ap (λ (e : Column). Some (c.in-FixedLists.size, e)) (sym c.deref-in-FixedLists.ensures))
+pub row_order-rows_order-requires-in-List-other : goal.row_order-rows_order-requires-in-List-other
+row_order-rows_order-requires-in-List-other t c =
+    let is = (ap fixed_in c.in-FixedLists.is ∙ ap (λ (e : Column). Some (c.in-FixedLists.size, e)) (sym c.deref-in-List-other.ensures)) in
+    let within = fixed_within (term_of c.self.inside.dtype) c.self.inside.len c.args.i c.self.inside.held.content (c.in-FixedLists.size, c.deref-in-List-other.result.now) is c.self.invariant.shape (place_below c.self.inside c.args.self.now c.args.i c.self.invariant c.self.view_is c.requires.place) in
+    let inside = (fixed_inside c.self.inside c.args.self.now (c.in-FixedLists.size, c.deref-in-List-other.result.now) c.row_ref-other.result c.in-List-other.values c.args.value.now c.self.invariant c.self.view_is (ap fixed_in c.in-FixedLists.is ∙ ap (λ (e : Column). Some (c.in-FixedLists.size, e)) (sym c.deref-in-List-other.ensures))
     (own_held c.self.inside c.args.self.now (ref_term c.type_ref.result) c.row_ref-other.result c.args.value.now c.self.view_is c.type_ref.ensures
     c.row_ref-other.ensures c.requires.row) c.in-List-other.is) in
-    (omega (arith, c.decreases, fixed_list_lighter c.self.inside c.args.self.now (c.in-FixedLists.size, c.deref-in-FixedLists.result.now) c.self.view_is is), (omega arith, (within, inside.some)))
+    (omega (arith, c.decreases, fixed_list_lighter c.self.inside c.args.self.now (c.in-FixedLists.size, c.deref-in-List-other.result.now) c.self.view_is is), (omega arith, (within, inside.some)))
 
 pub row_order-returns-in-List-other : goal.row_order-returns-in-List-other
 row_order-returns-in-List-other t c =
-    shown_lists c.self.inside c.args.self.now c.args.i (rows_from (slice_range c.deref-in-FixedLists.result.now.rows (c.args.i * c.in-FixedLists.size) (c.args.i * c.in-FixedLists.size + c.in-FixedLists.size))) (every c.deref-in-FixedLists.result.now.dtype) c.in-List-other.values.now c.args.value.now c.rows_order-in-FixedLists.result
+    shown_lists c.self.inside c.args.self.now c.args.i (rows_from (slice_range c.deref-in-List-other.result.now.rows (c.args.i * c.in-FixedLists.size) (c.args.i * c.in-FixedLists.size + c.in-FixedLists.size))) (every c.deref-in-List-other.result.now.dtype) c.in-List-other.values.now c.args.value.now c.rows_order-in-List-other.result
     (shown c.self.inside c.args.self.now c.args.i c.self.invariant c.self.view_is c.requires.place c.if-not-is_unmasked.ensures)
-    (fixed_at c.self.inside c.args.self.now c.args.i (c.in-FixedLists.size, c.deref-in-FixedLists.result.now) (shown c.self.inside c.args.self.now c.args.i c.self.invariant c.self.view_is c.requires.place c.if-not-is_unmasked.ensures) (ap fixed_in c.in-FixedLists.is ∙ ap (λ (e : Column). Some (c.in-FixedLists.size, e)) (sym c.deref-in-FixedLists.ensures)))
-    (fixed_inside c.self.inside c.args.self.now (c.in-FixedLists.size, c.deref-in-FixedLists.result.now) c.row_ref-other.result c.in-List-other.values c.args.value.now c.self.invariant c.self.view_is (ap fixed_in c.in-FixedLists.is ∙ ap (λ (e : Column). Some (c.in-FixedLists.size, e)) (sym c.deref-in-FixedLists.ensures))
+    (fixed_at c.self.inside c.args.self.now c.args.i (c.in-FixedLists.size, c.deref-in-List-other.result.now) (shown c.self.inside c.args.self.now c.args.i c.self.invariant c.self.view_is c.requires.place c.if-not-is_unmasked.ensures) (ap fixed_in c.in-FixedLists.is ∙ ap (λ (e : Column). Some (c.in-FixedLists.size, e)) (sym c.deref-in-List-other.ensures)))
+    (fixed_inside c.self.inside c.args.self.now (c.in-FixedLists.size, c.deref-in-List-other.result.now) c.row_ref-other.result c.in-List-other.values c.args.value.now c.self.invariant c.self.view_is (ap fixed_in c.in-FixedLists.is ∙ ap (λ (e : Column). Some (c.in-FixedLists.size, e)) (sym c.deref-in-List-other.ensures))
     (own_held c.self.inside c.args.self.now (ref_term c.type_ref.result) c.row_ref-other.result c.args.value.now c.self.view_is c.type_ref.ensures
     c.row_ref-other.ensures c.requires.row) c.in-List-other.is)
-    c.rows_order-in-FixedLists.ensures
+    c.rows_order-in-List-other.ensures
 
 pub row_order-fields_order-requires : goal.row_order-fields_order-requires
 row_order-fields_order-requires t c =
-    let inside = (structs_inside c.self.inside c.args.self.now c.deref-in-Structs.result.now c.row_ref-other.result c.in-List-other-2.values c.args.value.now c.self.invariant c.self.view_is (ap fields_in c.in-Structs.is ∙ ap Some (sym c.deref-in-Structs.ensures.value))
+    let inside = (structs_inside c.self.inside c.args.self.now c.deref-in-List-other-2.result.now c.row_ref-other.result c.in-List-other-2.values c.args.value.now c.self.invariant c.self.view_is (ap fields_in c.in-Structs.is ∙ ap Some (sym c.deref-in-List-other-2.ensures.value))
     (own_held c.self.inside c.args.self.now (ref_term c.type_ref.result) c.row_ref-other.result c.args.value.now c.self.view_is c.type_ref.ensures
     c.row_ref-other.ensures c.requires.row) c.in-List-other-2.is) in
-    (omega (arith, c.decreases, struct_lighter c.self.inside c.args.self.now c.deref-in-Structs.result.now c.self.view_is (ap fields_in c.in-Structs.is ∙ ap Some (sym c.deref-in-Structs.ensures.value))), ((fields_above (term_of c.self.inside.dtype) c.self.inside.len c.args.i c.self.inside.held.content c.deref-in-Structs.result.now (ap fields_in c.in-Structs.is ∙ ap Some (sym c.deref-in-Structs.ensures.value)) c.self.invariant.shape
+    (omega (arith, c.decreases, struct_lighter c.self.inside c.args.self.now c.deref-in-List-other-2.result.now c.self.view_is (ap fields_in c.in-Structs.is ∙ ap Some (sym c.deref-in-List-other-2.ensures.value))), ((fields_above (term_of c.self.inside.dtype) c.self.inside.len c.args.i c.self.inside.held.content c.deref-in-List-other-2.result.now (ap fields_in c.in-Structs.is ∙ ap Some (sym c.deref-in-List-other-2.ensures.value)) c.self.invariant.shape
     (place_below c.self.inside c.args.self.now c.args.i c.self.invariant c.self.view_is c.requires.place)), inside.rows))
 
 pub row_order-returns-in-List-other-2 : goal.row_order-returns-in-List-other-2
 row_order-returns-in-List-other-2 t c =
-    shown_structs c.self.inside c.args.self.now c.args.i c.deref-in-Structs.result.now c.in-List-other-2.values.now c.args.value.now c.fields_order.result
+    shown_structs c.self.inside c.args.self.now c.args.i c.deref-in-List-other-2.result.now c.in-List-other-2.values.now c.args.value.now c.fields_order.result
     (shown c.self.inside c.args.self.now c.args.i c.self.invariant c.self.view_is c.requires.place c.if-not-is_unmasked.ensures)
-    (structs_at c.self.inside c.args.self.now c.args.i c.deref-in-Structs.result.now (shown c.self.inside c.args.self.now c.args.i c.self.invariant c.self.view_is c.requires.place c.if-not-is_unmasked.ensures) (ap fields_in c.in-Structs.is ∙ ap Some (sym c.deref-in-Structs.ensures.value)) (fields_above (term_of c.self.inside.dtype) c.self.inside.len c.args.i c.self.inside.held.content c.deref-in-Structs.result.now (ap fields_in c.in-Structs.is ∙ ap Some (sym c.deref-in-Structs.ensures.value)) c.self.invariant.shape
+    (structs_at c.self.inside c.args.self.now c.args.i c.deref-in-List-other-2.result.now (shown c.self.inside c.args.self.now c.args.i c.self.invariant c.self.view_is c.requires.place c.if-not-is_unmasked.ensures) (ap fields_in c.in-Structs.is ∙ ap Some (sym c.deref-in-List-other-2.ensures.value)) (fields_above (term_of c.self.inside.dtype) c.self.inside.len c.args.i c.self.inside.held.content c.deref-in-List-other-2.result.now (ap fields_in c.in-Structs.is ∙ ap Some (sym c.deref-in-List-other-2.ensures.value)) c.self.invariant.shape
     (place_below c.self.inside c.args.self.now c.args.i c.self.invariant c.self.view_is c.requires.place)))
-    (structs_inside c.self.inside c.args.self.now c.deref-in-Structs.result.now c.row_ref-other.result c.in-List-other-2.values c.args.value.now c.self.invariant c.self.view_is (ap fields_in c.in-Structs.is ∙ ap Some (sym c.deref-in-Structs.ensures.value))
+    (structs_inside c.self.inside c.args.self.now c.deref-in-List-other-2.result.now c.row_ref-other.result c.in-List-other-2.values c.args.value.now c.self.invariant c.self.view_is (ap fields_in c.in-Structs.is ∙ ap Some (sym c.deref-in-List-other-2.ensures.value))
     (own_held c.self.inside c.args.self.now (ref_term c.type_ref.result) c.row_ref-other.result c.args.value.now c.self.view_is c.type_ref.ensures
     c.row_ref-other.ensures c.requires.row) c.in-List-other-2.is)
     c.fields_order.ensures
