@@ -1,6 +1,7 @@
 -- How rows compare with values one after the other.
 use Rattle.std.specs.Prelude.{slice_range}
-use Rattle.std.proofs.Common.{◌≡◌, ◌≤◌, ◌<◌, ◌+◌, ◌-◌, ◌∙◌, ℕ, zero, suc, List, [], ◌∷◌, Option, Some, None, length, take, drop, refl, sym, ap, subst, arith}
+use Rattle.std.proofs.Common.{◌≡◌, ◌≤◌, ◌<◌, ◌+◌, ◌-◌, ◌∙◌, ℕ, zero, suc, List, [], ◌∷◌, Option, Some, None, length, get_or, take, drop, refl, sym, ap, subst, arith}
+use Rattle.std.proofs.lemmas.List.{take_all}
 use Rattle.std.specs.Option.{IsSome, unwrap_or}
 use Rattle.std.specs.Ordering.{ordering_then}
 use Rattle.std.specs.declared.cmp.Ordering.{Ordering}
@@ -150,3 +151,20 @@ both_end i [] [] all h none so_far = so_far
 both_end i [] (v ∷ vs) all h none so_far = absurd h
 both_end i (c ∷ cs) [] all h none so_far = absurd h
 both_end i (c ∷ cs) (v ∷ vs) all h none so_far = absurd (none (omega arith) (omega arith))
+
+pub fields_end : (i : ℕ) (cs : List Column) (ws : List ValueTerm) (all : Ordering) → length cs < 1 → HaveRows cs ws
+    → rows_cmp (rows_at i cs) (rows_beside cs ws) ≡ all → Equal ≡ all
+fields_end i cs ws all few h so_far = both_end i cs ws all h (λ a b. absurd (omega (arith, a, few))) so_far
+
+pub values_end : (i : ℕ) (cs : List Column) (ws : List ValueTerm) (all : Ordering) → length ws < 1 → HaveRows cs ws
+    → rows_cmp (rows_at i cs) (rows_beside cs ws) ≡ all → Equal ≡ all
+values_end i cs ws all few h so_far = both_end i cs ws all h (λ a b. absurd (omega (arith, b, few))) so_far
+
+-- ---- the first of what is left
+
+pub front : {A : Type 0} (ws : List A) (v : A) → 1 ≤ length ws → v ≡ get_or ws 0 v
+    → ws ≡ v ∷ take (length ws - 1) (drop 1 ws)
+front [] v h e = absurd (omega (arith, h))
+front {A = A} (w ∷ ws) v h e =
+    let few : length (w ∷ ws) - 1 ≡ length ws = omega arith in
+    sym ((λ j. e j ∷ take (few j) ws) ∙ ap (λ (l : List A). w ∷ l) (take_all (length ws) ws (omega arith)))

@@ -1,8 +1,9 @@
 -- What comparing the rows of an array with a scalar answers, by the masks of truth values that it is made of.
 use Rattle.std.specs.Prelude.{not, ◌&&◌, ◌||◌, slice_get, if◌then◌else◌}
-use Rattle.std.proofs.Common.{◌≡◌, ◌∙◌, ◌<◌, ◌+◌, ◌++◌, ℕ, zero, suc, List, [], ◌∷◌, Bool, true, false, IsTrue, Some, None, map, length, replicate, take, refl, sym, ap, subst, arith, true≢false}
+use Rattle.std.proofs.Common.{◌≡◌, ◌∙◌, ◌<◌, ◌+◌, ◌++◌, ℕ, zero, suc, List, [], ◌∷◌, Bool, true, false, IsTrue, Option, Some, None, map, length, replicate, take, refl, sym, ap, subst, arith, true≢false}
 use Rattle.std.proofs.lemmas.List.{length-map}
 use Rattle.std.specs.List.{list_all, list_any, AllByRecursion}
+use Rattle.std.specs.Option.{is_some, IsSome, unwrap_or}
 use Rattle.vortex_names.specs.Nullable.{is_nullable, nullability_of, either}
 use Rattle.vortex_names.specs.declared.nullable.Nullability.{Nullability}
 use Rattle.vortex_terms.specs.Term.{Term, null, boolean, primitive, decimal, utf8, binary, structure, list, extension, fixed_size_list}
@@ -16,7 +17,7 @@ use Rattle.vortex_terms.specs.Row.{Row, null_row, truth_row, whole_row, bytes_ro
 use Rattle.vortex_value.specs.Operator.{bears}
 use Rattle.vortex_value.specs.declared.operator.Operator.{Operator}
 use Rattle.vortex_scalar_value.specs.Value.{ValueTerm}
-use Rattle.vortex_value_rows.specs.RowOf.{row_of}
+use Rattle.vortex_value_rows.specs.RowOf.{row_of, row_under}
 use Rattle.vortex_value_rows.specs.RowLaws.{row_of-same}
 use Rattle.vortex_node_rows.specs.RowsOf.{truth_of}
 use Rattle.vortex_array.specs.ValidRows.{valid_rows}
@@ -135,9 +136,18 @@ none_any (suc n) = none_any n
 pub none_true : {X : Type 0} (n : ℕ) → IsTrue (list_any (λ b. b) (replicate n false)) → X
 none_true n h = absurd (true≢false (sym h ∙ none_any n))
 
+pub never_true : {X : Type 0} (n : ℕ) (m : List Bool) → m ≡ replicate n false → IsTrue (list_any (λ b. b) m) → X
+never_true n m e h = none_true n (subst (λ (l : List Bool). IsTrue (list_any (λ b. b) l)) e h)
+
 -- the value is the scalar's row under the array's type, too
 pub known_value : (t u : Term) (v : ValueTerm) (r : Row) → IsTrue (is_same t u) → row_of u v ≡ Some r → row_of t v ≡ Some r
 known_value t u v r same e = row_of-same t u v ((is_same-Decides t u).0 same) ∙ e
+
+pub value_there : (t u : Term) (v : ValueTerm) (r : Row) → IsTrue (is_same t u) → row_of u v ≡ Some r → IsSome (row_of t v)
+value_there t u v r same e = ap is_some (known_value t u v r same e)
+
+pub value_under : (t u : Term) (v : ValueTerm) (r : Row) → IsTrue (is_same t u) → row_of u v ≡ Some r → row_under t v ≡ r
+value_under t u v r same e = ap (λ (o : Option Row). unwrap_or o null_row) (known_value t u v r same e)
 
 -- of rows that are all one row
 alike : (o : Operator) (s : Row) (n : ℕ) (r : Row) → replicate n (row_truth o s r) ≡ row_truths o s (copies n r)

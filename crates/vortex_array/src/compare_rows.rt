@@ -96,7 +96,10 @@ impl Array {
     {
         let mut rest = fields;
         let mut others = values;
-        while let ([field, fields @ ..], [value, values @ ..]) = (rest, others) {
+        while let [field, fields @ ..] = rest {
+            let [value, values @ ..] = others else {
+                return Ordering::Equal;
+            };
             match field.row_order(i, value) {
                 Ordering::Equal => {}
                 other => return other,

@@ -5,6 +5,8 @@ use Rattle.std.specs.Int.{w128}
 use Rattle.std.specs.Option.{IsSome}
 use mir.Val.{SFits}
 use Rattle.vortex_terms.specs.Row.{null_row, truth_row, whole_row, bytes_row, list_row, rows_from}
+use Rattle.vortex_terms.specs.Order.{row_cmp}
+use Rattle.vortex_terms.specs.Term.{Term}
 use Rattle.vortex_types.specs.DTypes.{term_of}
 use Rattle.vortex_types.specs.TypeRefs.{ref_term}
 use Rattle.vortex_value_rows.specs.Inside.{every}
@@ -14,7 +16,7 @@ use Rattle.vortex_array.specs.inner.ComparedRows.{rows_at}
 use Rattle.vortex_array.proofs.HeldParts.{fields_in, storage_in}
 use Rattle.vortex_array.proofs.HeldValues.{lists_in, fixed_in, list_within, fixed_within, fields_above, place_below, list_lighter, fixed_list_lighter, struct_lighter, field_lighter}
 use Rattle.vortex_array.proofs.ComparedPlaces.{own_held, shown, storage_lighter, hidden_order, shown_leaf, shown_order, shown_lists, lists_greater, fixed_greater, structs_greater, shown_structs, storage_order, storage_below, storage_value, nulls_at, truths_at, numbers_at, decimals_at, texts_at, constant_at, lists_at, fixed_at, structs_at, lists_inside, fixed_inside, structs_inside}
-use Rattle.vortex_array.proofs.ComparedLists.{first_row, rest_rows, goes_on, decides, fewer_rows, fewer_values, as_many, fields_go_on, field_decides, both_end}
+use Rattle.vortex_array.proofs.ComparedLists.{AreRows, front, first_row, rest_rows, goes_on, decides, fewer_rows, fewer_values, as_many, fields_go_on, field_decides, both_end}
 use Rattle.vortex_array.proofs.held.Array.+ordered.Goals as goal
 
 pub row_order-returns-then-not-is_unmasked : goal.row_order-returns-then-not-is_unmasked
@@ -169,3 +171,47 @@ row_order-row_order-requires t c =
 pub row_order-returns-in-Storage : goal.row_order-returns-in-Storage
 row_order-returns-in-Storage t c =
     storage_order c.self.inside c.args.self.now c.deref-in-Storage.result.now c.args.i c.args.value.now c.row_order.result (shown c.self.inside c.args.self.now c.args.i c.self.invariant c.self.view_is c.requires.place c.if-not-is_unmasked.ensures) (ap storage_in c.in-Storage.is ∙ ap Some (sym c.deref-in-Storage.ensures)) c.row_order.ensures
+
+pub row_order-returns-in-Constant : goal.row_order-returns-in-Constant
+row_order-returns-in-Constant t c =
+    shown_order c.self.inside c.args.self.now c.args.i (row_under (term_of c.self.inside.dtype) c.in-Constant.mine) (row_under c.args.self.now.dtype c.args.value.now) c.compare.result
+    (shown c.self.inside c.args.self.now c.args.i c.self.invariant c.self.view_is c.requires.place c.if-not-is_unmasked.ensures)
+    (constant_at c.self.inside c.args.self.now c.args.i c.in-Constant.mine (shown c.self.inside c.args.self.now c.args.i c.self.invariant c.self.view_is c.requires.place c.if-not-is_unmasked.ensures) c.in-Constant.is)
+    (c.compare.ensures
+    ∙ ap (λ (u : Term). row_cmp (row_under u c.in-Constant.mine) (row_under u c.args.value.now)) c.type_ref-in-Constant.ensures
+    ∙ ap (λ (x : Column). row_cmp (row_under (term_of c.self.inside.dtype) c.in-Constant.mine) (row_under x.dtype c.args.value.now)) c.self.view_is)
+
+pub rows_order-returns-then-i-to : goal.rows_order-returns-then-i-to
+rows_order-returns-then-i-to t c =
+    fewer_rows c.args.self.now.dtype c.args.self.now.rows c.loop-rest.i c.args.to c.loop-rest.rest.now _ c.value-item.result _
+    (front c.loop-rest.rest.now c.value-item.result c.in-len1-up.len_at_least c.value-item.is)
+    (omega (arith, c.if-i-to.true)) c.loop-rest.invariant.rows c.loop-rest.invariant.same
+
+pub rows_order-row_order-requires : goal.rows_order-row_order-requires
+rows_order-row_order-requires t c =
+    (omega (arith, c.decreases), (omega (arith, c.if-i-to.false, c.requires.within),
+    first_row c.args.self.now.dtype c.value-item.result _ (subst (AreRows c.args.self.now.dtype)
+    (front c.loop-rest.rest.now c.value-item.result c.in-len1-up.len_at_least c.value-item.is) c.loop-rest.invariant.rows)))
+
+pub rows_order-returns-in_default-row_order : goal.rows_order-returns-in_default-row_order
+rows_order-returns-in_default-row_order t c =
+    decides c.args.self.now.dtype c.args.self.now.rows c.loop-rest.i c.args.to c.loop-rest.rest.now _ c.value-item.result c.row_order.result _
+    (front c.loop-rest.rest.now c.value-item.result c.in-len1-up.len_at_least c.value-item.is)
+    (omega (arith, c.if-i-to.false)) c.requires.within c.loop-rest.invariant.rows c.row_order.ensures
+    c.in_default-row_order.not-Equal c.loop-rest.invariant.same
+
+pub rows_order-loop-rest-preserved : goal.rows_order-loop-rest-preserved
+rows_order-loop-rest-preserved t c = record {
+  rise = omega (arith, c.if-i-to.false);
+  rows = rest_rows c.args.self.now.dtype c.value-item.result _ (subst (AreRows c.args.self.now.dtype)
+      (front c.loop-rest.rest.now c.value-item.result c.in-len1-up.len_at_least c.value-item.is) c.loop-rest.invariant.rows);
+  same = goes_on c.args.self.now.dtype c.args.self.now.rows c.loop-rest.i c.args.to c.loop-rest.rest.now _ c.value-item.result _
+      (front c.loop-rest.rest.now c.value-item.result c.in-len1-up.len_at_least c.value-item.is)
+      (omega (arith, c.if-i-to.false)) c.requires.within c.loop-rest.invariant.rows c.in-Equal.ensures
+      c.loop-rest.invariant.same;
+}
+
+pub rows_order-returns-then-i-to-2 : goal.rows_order-returns-then-i-to-2
+rows_order-returns-then-i-to-2 t c =
+    fewer_values c.args.self.now.dtype c.args.self.now.rows c.loop-rest.i c.args.to c.loop-rest.rest.now _ c.in_default.len_below
+    (omega (arith, c.if-i-to-2.true)) c.requires.within c.loop-rest.invariant.same
