@@ -59,7 +59,7 @@ hidden_value a c i v h is below hidden e =
     (held_count a h) h.count (omega (arith, below, count)) hidden in
     ap (row_of c.dtype) e ∙ null_row_of c.dtype ∙ sym here ∙ ap (λ (c : Column). slice_get c.rows i) is
 
-copies_at : (n i : ℕ) (r : Row) → i < n → slice_get (copies n r) i ≡ Some r
+pub copies_at : (n i : ℕ) (r : Row) → i < n → slice_get (copies n r) i ≡ Some r
 unfolding copies
 copies_at zero i r h = absurd (omega (arith, h))
 copies_at (suc n) zero r h = refl
@@ -212,7 +212,7 @@ pub record Listed (t : Term) (n : ℕ) (c : Content) (p : List ℕ × Column) : 
   pub value : (vs : List ValueTerm) (rs : List Row) → AreValuesOf p.1.dtype vs rs
       → row_of t (list_value (values_from vs)) ≡ Some (list_row (rows_from rs))
 
-lists_are : (n : ℕ) (p : List ℕ × Column) (c : Content) (t : Term) → lists_in c ≡ Some p → IsShaped c t n → Listed t n c p
+pub lists_are : (n : ℕ) (p : List ℕ × Column) (c : Content) (t : Term) → lists_in c ≡ Some p → IsShaped c t n → Listed t n c p
 lists_are n p Nulls t e h = absurd (none_some p e)
 lists_are n p (Truths m) t e h = absurd (none_some p e)
 lists_are n p (Numbers a) t e h = absurd (none_some p e)
@@ -272,7 +272,7 @@ pub record Fixed (t : Term) (n : ℕ) (c : Content) (p : ℕ × Column) : Type 0
   pub value : (vs : List ValueTerm) (rs : List Row) → AreValuesOf p.1.dtype vs rs
       → row_of t (list_value (values_from vs)) ≡ Some (list_row (rows_from rs))
 
-fixed_are : (n : ℕ) (p : ℕ × Column) (c : Content) (t : Term) → fixed_in c ≡ Some p → IsShaped c t n → Fixed t n c p
+pub fixed_are : (n : ℕ) (p : ℕ × Column) (c : Content) (t : Term) → fixed_in c ≡ Some p → IsShaped c t n → Fixed t n c p
 fixed_are n p Nulls t e h = absurd (none_some p e)
 fixed_are n p (Truths m) t e h = absurd (none_some p e)
 fixed_are n p (Numbers a) t e h = absurd (none_some p e)
@@ -338,7 +338,7 @@ fields_long n no_fields (c ∷ cs) h = absurd h
 fields_long n (field x t fs) [] h = absurd h
 fields_long n (field x t fs) (c ∷ cs) h = (h.0.1, fields_long n fs cs h.1)
 
-structs_are : (n : ℕ) (p : List Column) (c : Content) (t : Term) → fields_in c ≡ Some p → IsShaped c t n
+pub structs_are : (n : ℕ) (p : List Column) (c : Content) (t : Term) → fields_in c ≡ Some p → IsShaped c t n
     → Structed t n c p
 structs_are n p Nulls t e h = absurd (none_some p e)
 structs_are n p (Truths m) t e h = absurd (none_some p e)

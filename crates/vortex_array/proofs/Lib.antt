@@ -22,3 +22,7 @@ pub mod NestedRows
 pub mod OffsetTests
 pub mod NestedMade
 pub mod MadeLeaves
+pub mod ComparedTruths
+pub mod AlikeRows
+pub mod ComparedPlaces
+pub mod ComparedLists

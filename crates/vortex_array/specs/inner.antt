@@ -2,3 +2,5 @@ pub mod Picked
 pub mod Masks
 pub mod Spans
 pub mod PickedPlaces
+pub mod ComparedRows
+pub mod AlikeRows

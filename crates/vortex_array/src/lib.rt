@@ -3,6 +3,9 @@
 
 mod access;
 mod array;
+mod compare;
+mod compare_rows;
+mod compare_values;
 mod context;
 mod decode;
 mod decode_nested;
@@ -20,6 +23,7 @@ mod pick_parts;
 mod pick_rows;
 mod scalars;
 mod select;
+mod uniform;
 mod values;
 
 pub use context::ArrayContext;
