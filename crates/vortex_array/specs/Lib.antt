@@ -13,3 +13,5 @@ pub mod ValuesAt
 pub mod ErrorNumber
 pub mod MadeNested
 pub mod MadeLeaves
+pub mod Agreement
+pub mod WorkedAgreement

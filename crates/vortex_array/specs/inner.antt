@@ -2,3 +2,4 @@ pub mod Picked
 pub mod Masks
 pub mod Spans
 pub mod PickedPlaces
+pub mod Agreeing

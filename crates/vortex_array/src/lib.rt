@@ -2,6 +2,7 @@
 #![tactic(auto)]
 
 mod access;
+mod agreement;
 mod array;
 mod context;
 mod decode;
@@ -22,6 +23,7 @@ mod scalars;
 mod select;
 mod values;
 
+pub use agreement::agreement_is_worked;
 pub use context::ArrayContext;
 pub use error::ArrayError;
 pub use held::Array;

@@ -213,7 +213,7 @@ decode_nested::field_arrays-loop-i-preserved t c =
     (is_nullable c.args.nullability) c.args.n c.loop-i.i c.loop-i.arrays.items c.first-item.result
     (term_of c.in_ok-dtype.dtype) c.in_ok-decode.field-0 c.push.new.self.items c.loop-i.invariant
     c.in-len1-up.len_at_least c.first-item.is c.in_ok-dtype.ensures.field c.in_ok-decode.ensures.rows
-    c.in_ok-decode.ensures.dtype c.in_ok-push.ensures.items
+    c.in_ok-decode.ensures.dtype c.in_ok-decode.ensures.node c.in_ok-push.ensures.items
 
 pub decode_nested::field_arrays-validity-requires :
     goal.decode_nested::field_arrays-validity-requires
