@@ -35,17 +35,6 @@ leaf_agrees f e t n x v none = record {
       (mask_aside n v);
 }
 
-pub no_parts_null : (t : Term) (count : Option ℕ) → parts_in encoding.Null t count ≡ []
-no_parts_null t count = refl
-
-pub no_parts_constant : (t : Term) (count : Option ℕ) → parts_in encoding.Constant t count ≡ []
-no_parts_constant t count = refl
-
--- the same of a node that is known to be one without children
-pub childless_agrees : (f : ℕ → Option Encoding) (e : Encoding) (t : Term) (n : ℕ) (x : Node) (a : ArrayNode)
-    → a ≡ array_node e n no_array_nodes → parts_in e t (Some n) ≡ [] → HeldAgrees f e t n x a
-childless_agrees f e t n x a is none = subst (HeldAgrees f e t n x) (sym is) (leaf_agrees f e t n x None none)
-
 -- how rows are held, and the encoding that the place is
 pub agrees_by : (f : ℕ → Option Encoding) (e : Encoding) (t : Term) (n : ℕ) (x : Node) (a b : ArrayNode)
     → f (node_encoding x) ≡ Some e → HeldAgrees f e t n x a → b ≡ a → Agrees f t (Some n) x b
@@ -129,6 +118,18 @@ parts_agree f e t n x cs ds is h = record {
   count = refl;
   parts = subst (λ (c : Nodes). PartsAgree f n (parts_in e t (Some n)) c ds) is h;
 }
+
+-- lists, whose elements are as many as they are; b is a, shared
+pub list_agrees : (f : ℕ → Option Encoding) (t : Term) (nl : Bool) (count n : ℕ) (x : Node) (cs : Nodes)
+    (a b : Column) (v : Validity)
+    → cs ≡ node_children x → b ≡ a
+    → PartsAgree f n (part t (Some count) ∷ []) cs (array_child a.node (mask_nodes n v))
+    → HeldAgrees f encoding.List (list t nl) n x (array_node encoding.List n (array_child b.node (mask_nodes n v)))
+list_agrees f t nl count n x cs a b v is same h =
+    let shared : PartsAgree f n (part t (Some count) ∷ []) cs (array_child b.node (mask_nodes n v)) = subst (λ
+    (c : Column). PartsAgree f n (part t (Some count) ∷ []) cs (array_child c.node (mask_nodes n v))) (sym same) h in
+    parts_agree f encoding.List (list t nl) n x cs (array_child b.node (mask_nodes n v)) is
+    (part_untold f n t (Some count) cs (array_child b.node (mask_nodes n v)) shared)
 
 -- ---- fields
 

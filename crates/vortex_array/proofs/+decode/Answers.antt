@@ -12,7 +12,7 @@ use Rattle.vortex_node_rows.specs.RowsOf.{most_rows, truth_of}
 use Rattle.vortex_node_rows.specs.declared.encoding.Encoding.TheVariants as encoding
 use Rattle.vortex_node_rows.proofs.RowsCounted.{rows_count}
 use Rattle.vortex_array.specs.Content.{held_node}
-use Rattle.vortex_array.proofs.Agreements.{agrees_by, childless_agrees, first_agrees, leaf_agrees, only_agrees, part_untold, parts_agree}
+use Rattle.vortex_array.proofs.Agreements.{agrees_by, first_agrees, leaf_agrees, list_agrees, only_agrees}
 use Rattle.vortex_array.proofs.Nodes.{lighter, read_children, others_bytes, others_fewer, many_refused, unknown_refused, known_refused, held_stands, held_count, held_fit}
 use Rattle.vortex_array.proofs.Refusals.{passes_on, column_read}
 use Rattle.vortex_array.proofs.FieldArrays.{begun_with, too_few_refused, first_fewer, first_bytes, stopped_refused, pushed, ended_refused, ended_some, all_fit, all_agree}
@@ -313,3 +313,11 @@ decode_nested::field_arrays-returns-clause-parts t c =
     all_agree (encoding_in c.args.context.now) (nodes_from c.args.nodes.now) (nodes_from c.loop-i.rest.now)
     c.args.fields.now (is_nullable c.args.nullability) c.args.n c.loop-i.i c.loop-i.arrays.items
     c.in_ok-validity.validity c.loop-i.invariant all
+
+pub decode_nested::lists-returns-clause-node :
+    goal.decode_nested::lists-returns-clause-node
+decode_nested::lists-returns-clause-node t c =
+    let same : c.in_ok-new.field-0.value ≡ c.in_ok-elements.elements = first_of (search rules, grind (arith, common_steps)) in
+    list_agrees (encoding_in c.args.context.now) (term_of c.args.element.now) (is_nullable c.args.nullability)
+    c.in-Ok.metadata.elements c.args.n c.args.parts.now (nodes_from c.children.result.now) c.in_ok-elements.elements
+    c.in_ok-new.field-0.value c.in_ok-elements.validity c.children.ensures same c.in_ok-elements.ensures.parts
