@@ -1,5 +1,6 @@
 use Rattle.std.proofs.Common.{rules, arith, refl, ◌≡◌, ◌≤◌, ◌<◌, ◌∙◌, Some, None, ap, length}
 use Rattle.std.specs.Prelude.{IsTrue}
+use Rattle.std.proofs.lemmas.Grind.{common_steps}
 use Rattle.std.proofs.lemmas.List.{length-map}
 use Rattle.vortex_terms.specs.Term.{binary, boolean, decimal, primitive, utf8}
 use Rattle.vortex_terms.specs.Types.{field_count}
