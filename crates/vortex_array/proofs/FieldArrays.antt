@@ -18,8 +18,12 @@ use Rattle.vortex_array.specs.declared.error.ArrayError.TheVariants as error
 use Rattle.vortex_array.specs.Answers.{Refuses}
 use Rattle.vortex_array.proofs.Nodes.{first_rest, none_left}
 use Rattle.vortex_array.proofs.Refusals.{refused}
+use Rattle.vortex_array.specs.ArrayNode.{ArrayNodes, array_child, array_nodes_before}
+use Rattle.vortex_array.specs.Agreement.{Agrees, PartsAgree}
+use Rattle.vortex_array.specs.inner.Agreeing.{field_parts}
 use Rattle.vortex_array.specs.Column.{Column}
-use Rattle.vortex_array.specs.Content.{column_rows, AreFields}
+use Rattle.vortex_array.specs.Content.{column_nodes, column_rows, mask_nodes, AreFields}
+use Rattle.vortex_array.proofs.Agreements.{mask_aside, nodes_joined}
 
 -- columns, and what is found behind them
 abbrev pub joined : List (List Row) → Option (List (List Row) × Validity) → Option (List (List Row) × Validity)
@@ -30,6 +34,8 @@ pub record AreSoFar (f : ℕ → Option Encoding) (nodes : Nodes) (rest : Nodes)
     (cs : List Column) : Type 0 where
   pub found : joined (column_rows cs) (field_rows_of f rest (fields_drop i fs) nl n) ≡ field_rows_of f nodes fs nl n
   pub fit : (ds : List Column) → AreFields n (fields_drop i fs) ds → AreFields n fs (cs ++ ds)
+  pub agree : (ds : ArrayNodes) → PartsAgree f n (field_parts (fields_drop i fs) n) rest ds
+      → PartsAgree f n (field_parts fs n) nodes (array_nodes_before (column_nodes cs) ds)
   pub fewer : nodes_count rest ≤ nodes_count nodes
   pub bytes : AreByteNodes rest
 
@@ -42,6 +48,7 @@ pub begun : (f : ℕ → Option Encoding) (nodes : Nodes) (fs : Fields) (nl : Bo
 begun f nodes fs nl n h = record {
   found = joined_none (field_rows_of f nodes fs nl n);
   fit = λ ds k. k;
+  agree = λ ds k. k;
   fewer = omega arith;
   bytes = h;
 }
@@ -85,8 +92,9 @@ no_nodes_left f nl n t gs hs name e = rw e refl
 pub stepped : (f : ℕ → Option Encoding) (nodes : Nodes) (x : Node) (rest : Nodes) (fs : Fields) (nl : Bool) (n i : ℕ)
     (cs : List Column) (c : Column) (t : Term)
     → AreSoFar f nodes (child x rest) fs nl n i cs → Some t ≡ field_at fs i → rows_of f x t n ≡ Some c.rows
-    → c.dtype ≡ t → length c.rows ≡ n → AreSoFar f nodes rest fs nl n (suc i) (cs ++ (c ∷ []))
-stepped f nodes x rest fs nl n i cs c t h e found type count =
+    → c.dtype ≡ t → length c.rows ≡ n → Agrees f t (Some n) x c.node
+    → AreSoFar f nodes rest fs nl n (suc i) (cs ++ (c ∷ []))
+stepped f nodes x rest fs nl n i cs c t h e found type count agrees =
     let step = drop_step fs i t (sym e) in
     let after = fields_drop (suc i) fs in
     record {
@@ -96,6 +104,9 @@ stepped f nodes x rest fs nl n i cs c t h e found type count =
           ∙ one_more cs c (field_rows_of f rest after nl n)) ∙ h.found;
       fit = λ ds k. subst (AreFields n fs) (sym (append_assoc cs (c ∷ []) ds))
           (h.fit (c ∷ ds) (subst (λ (gs : Fields). AreFields n gs (c ∷ ds)) (sym step.1) ((type, count), k)));
+      agree = λ ds k. subst (PartsAgree f n (field_parts fs n) nodes) (nodes_joined cs c ds)
+          (h.agree (array_child c.node ds) (subst (λ (gs : Fields). PartsAgree f n (field_parts gs n) (child x rest)
+          (array_child c.node ds)) (sym step.1) (agrees, k)));
       fewer = omega (arith, h.fewer);
       bytes = h.bytes.1;
     }
@@ -146,6 +157,15 @@ all_fit f nodes rest fs nl n i cs h k =
     subst (AreFields n fs) (append-nil cs) (h.fit [] (subst (λ (gs : Fields). AreFields n gs []) (sym
     (drop_all fs i k)) tt))
 
+-- and the nodes of all agree
+pub all_agree : (f : ℕ → Option Encoding) (nodes rest : Nodes) (fs : Fields) (nl : Bool) (n i : ℕ) (cs : List Column)
+    (v : Validity)
+    → AreSoFar f nodes rest fs nl n i cs → field_count fs ≡ i
+    → PartsAgree f n (field_parts fs n) nodes (array_nodes_before (column_nodes cs) (mask_nodes n v))
+all_agree f nodes rest fs nl n i cs v h k =
+    h.agree (mask_nodes n v) (subst (λ (gs : Fields). PartsAgree f n (field_parts gs n) rest (mask_nodes n v)) (sym
+    (drop_all fs i k)) (mask_aside n v))
+
 -- the same of nodes in a slice
 abbrev pub SoFar : (ℕ → Option Encoding) → Nodes → List Node → Fields → Bool → ℕ → ℕ → List Column → Type 0
 SoFar f nodes rest fs nl n i cs = AreSoFar f nodes (nodes_from rest) fs nl n i cs
@@ -195,13 +215,13 @@ stopped_refused f nodes rest fs nl n i cs x t e h some first here k =
 pub pushed : (f : ℕ → Option Encoding) (nodes : Nodes) (rest : List Node) (fs : Fields) (nl : Bool) (n i : ℕ)
     (cs : List Column) (x : Node) (t : Term) (c : Column) (new : List Column)
     → SoFar f nodes rest fs nl n i cs → 1 ≤ length rest → x ≡ get_or rest 0 x → Some t ≡ field_at fs i
-    → rows_of f x t n ≡ Some c.rows → c.dtype ≡ t → new ≡ cs ++ (c ∷ [])
+    → rows_of f x t n ≡ Some c.rows → c.dtype ≡ t → Agrees f t (Some n) x c.node → new ≡ cs ++ (c ∷ [])
     → AreSoFar f nodes (nodes_from (take (length rest - 1) (drop 1 rest))) fs nl n (i + 1) new
-pushed f nodes rest fs nl n i cs x t c new h some first here found type is =
+pushed f nodes rest fs nl n i cs x t c new h some first here found type agrees is =
     let others = nodes_from (take (length rest - 1) (drop 1 rest)) in
     let step : AreSoFar f nodes others fs nl n (suc i) (cs ++ (c ∷ [])) =
     stepped f nodes x others fs nl n i cs c t (parted f nodes rest fs nl n i cs x h some first) here found type
-    (rows_count f x t n c.rows found) in
+    (rows_count f x t n c.rows found) agrees in
     let next : suc i ≡ i + 1 = omega arith in
     subst (λ (j : ℕ). AreSoFar f nodes others fs nl n j new) next
     (subst (AreSoFar f nodes others fs nl n (suc i)) (sym is) step)

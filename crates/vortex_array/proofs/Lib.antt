@@ -26,3 +26,4 @@ pub mod ComparedTruths
 pub mod AlikeRows
 pub mod ComparedPlaces
 pub mod ComparedLists
+pub mod Agreements

@@ -14,3 +14,5 @@ pub mod ErrorNumber
 pub mod MadeNested
 pub mod MadeLeaves
 pub mod Compared
+pub mod Agreement
+pub mod WorkedAgreement

@@ -4,3 +4,4 @@ pub mod Spans
 pub mod PickedPlaces
 pub mod ComparedRows
 pub mod AlikeRows
+pub mod Agreeing

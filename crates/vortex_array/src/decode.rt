@@ -1,6 +1,6 @@
 //! Arrays from the nodes of bodies.
 
-ghost use Rattle.std.specs.Prelude.{◌≡◌, ◌≤◌, IfOk, None, if◌then◌else◌, length, map, true};
+ghost use Rattle.std.specs.Prelude.{◌≡◌, ◌≤◌, IfOk, None, Some, if◌then◌else◌, length, map, true};
 ghost use Rattle.std.specs.Option.{option_map};
 ghost use Rattle.vortex_terms.specs.Term.{binary, boolean, decimal, null, primitive, utf8};
 ghost use Rattle.vortex_number.specs.PType.{format_of};
@@ -14,8 +14,11 @@ ghost use Rattle.vortex_node_rows.specs.Encodings.{encoding_in};
 ghost use Rattle.vortex_node_rows.specs.Leaves.{constant_rows, decimals_of, numbers_of, pieces_of, truths_of};
 ghost use Rattle.vortex_node_rows.specs.RowsOf.{has_none, masked_rows, most_rows, null_rows, rows_of, text_rows, validity_of};
 ghost use Rattle.vortex_array.specs.Answers.{Answers};
-ghost use Rattle.vortex_array.specs.Content.{held_rows, is_maskable, IsMask, IsShaped};
+ghost use Rattle.vortex_array.specs.Agreement.{Agrees};
+ghost use Rattle.vortex_array.specs.ArrayNode.{array_node, no_array_nodes};
+ghost use Rattle.vortex_array.specs.Content.{held_node, held_rows, is_maskable, IsMask, IsShaped};
 ghost use Rattle.vortex_array.specs.Decoded.{rows_in};
+ghost use Rattle.vortex_array.specs.inner.Agreeing.{HeldAgrees};
 
 use crate::context::ArrayContext;
 use crate::decode_nested::{extension, fixed_lists, lists, structs};
@@ -47,6 +50,8 @@ pub(crate) fn decode(
     ensures rows { Answers (λ a. a.rows) result
         (rows_of (encoding_in context.now) parts.now (term_of dtype.now) n) }
     ensures dtype { IfOk result (λ a. a.dtype ≡ term_of dtype.now) }
+    ensures node { IfOk result (λ a.
+        Agrees (encoding_in context.now) (term_of dtype.now) (Some n) parts.now a.node) }
 {
     if n > MOST_ROWS {
         return Err(ArrayError::Malformed);
@@ -78,6 +83,8 @@ fn held(
         (rows_in (encoding_in context.now) encoding parts.now (term_of dtype.now) n) }
     ensures shape { IfOk result (λ h. IsShaped h.content (term_of dtype.now) n) }
     ensures mask { IfOk result (λ h. IsMask n (is_maskable (term_of dtype.now)) h.validity) }
+    ensures node { IfOk result (λ h. HeldAgrees (encoding_in context.now) encoding
+        (term_of dtype.now) n parts.now (held_node n h)) }
 {
     match (encoding, dtype) {
         (Encoding::Null, DType::Null) => nulls(parts, n),
@@ -174,6 +181,8 @@ fn bools(
     ensures shape { IfOk result (λ h.
         IsShaped h.content (boolean (is_nullable nullability)) n) }
     ensures mask { IfOk result (λ h. IsMask n (is_nullable nullability) h.validity) }
+    ensures node { IfOk result (λ h. HeldAgrees (encoding_in context.now) Encoding.Bool
+        (boolean (is_nullable nullability)) n parts.now (held_node n h)) }
 {
     let content = Content::Truths(truths(parts, n)?);
     let validity = validity(alloc, context, parts.children(), nullability, n)?;
@@ -199,6 +208,8 @@ fn numbers(
     ensures shape { IfOk result (λ h.
         IsShaped h.content (primitive (whole_kind ptype) (is_nullable nullability)) n) }
     ensures mask { IfOk result (λ h. IsMask n (is_nullable nullability) h.validity) }
+    ensures node { IfOk result (λ h. HeldAgrees (encoding_in context.now) Encoding.Primitive
+        (primitive (whole_kind ptype) (is_nullable nullability)) n parts.now (held_node n h)) }
 {
     let content = Content::Numbers(Numbers::read(parts, ptype, n)?);
     let validity = validity(alloc, context, parts.children(), nullability, n)?;
@@ -224,6 +235,8 @@ fn decimals(
     ensures shape { IfOk result (λ h.
         IsShaped h.content (decimal dtype.precision dtype.scale (is_nullable nullability)) n) }
     ensures mask { IfOk result (λ h. IsMask n (is_nullable nullability) h.validity) }
+    ensures node { IfOk result (λ h. HeldAgrees (encoding_in context.now) Encoding.Decimal
+        (decimal dtype.precision dtype.scale (is_nullable nullability)) n parts.now (held_node n h)) }
 {
     let content = Content::Decimals(Decimals::read(parts, n)?);
     let validity = validity(alloc, context, parts.children(), nullability, n)?;
@@ -248,6 +261,8 @@ fn binaries(
     ensures shape { IfOk result (λ h.
         IsShaped h.content (binary (is_nullable nullability)) n) }
     ensures mask { IfOk result (λ h. IsMask n (is_nullable nullability) h.validity) }
+    ensures node { IfOk result (λ h. HeldAgrees (encoding_in context.now) Encoding.VarBin
+        (binary (is_nullable nullability)) n parts.now (held_node n h)) }
 {
     let content = Content::Texts(Texts::read(parts, n)?);
     let validity = validity(alloc, context, parts.children(), nullability, n)?;
@@ -271,6 +286,8 @@ fn texts(
     ensures shape { IfOk result (λ h.
         IsShaped h.content (utf8 (is_nullable nullability)) n) }
     ensures mask { IfOk result (λ h. IsMask n (is_nullable nullability) h.validity) }
+    ensures node { IfOk result (λ h. HeldAgrees (encoding_in context.now) Encoding.VarBin
+        (utf8 (is_nullable nullability)) n parts.now (held_node n h)) }
 {
     let texts = Texts::read(parts, n)?;
     let validity = validity(alloc, context, parts.children(), nullability, n)?;
@@ -288,6 +305,7 @@ fn nulls(parts: &NodeParts, n: usize) -> Result<Held, ArrayError>
         (null_rows n (node_buffers parts.now) (has_none (node_children parts.now))) }
     ensures shape { IfOk result (λ h. IsShaped h.content null n) }
     ensures mask { IfOk result (λ h. IsMask n true h.validity) }
+    ensures node { IfOk result (λ h. held_node n h ≡ array_node Encoding.Null n no_array_nodes) }
 {
     if parts.buffer_count() != 0 {
         return Err(ArrayError::Malformed);
@@ -324,6 +342,8 @@ fn constants(alloc: Global, parts: &NodeParts, dtype: &DType, n: usize) -> Resul
         else None) }
     ensures shape { IfOk result (λ h. IsShaped h.content (term_of dtype.now) n) }
     ensures mask { IfOk result (λ h. IsMask n (is_maskable (term_of dtype.now)) h.validity) }
+    ensures node { IfOk result (λ h.
+        held_node n h ≡ array_node Encoding.Constant n no_array_nodes) }
 {
     if !parts.children().is_empty() {
         return Err(ArrayError::Malformed);

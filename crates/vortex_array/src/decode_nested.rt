@@ -1,6 +1,6 @@
 //! Arrays of lists, structs and extensions from the nodes of bodies.
 
-ghost use Rattle.std.specs.Prelude.{◌≡◌, ◌≤◌, ◌<◌, ◌*◌, IfOk, IsOkUnless, Some, false};
+ghost use Rattle.std.specs.Prelude.{◌≡◌, ◌≤◌, ◌<◌, ◌*◌, IfOk, IsOkUnless, Some, false, ◌∷◌, []};
 ghost use Rattle.vortex_terms.specs.Types.{field_at, field_count};
 ghost use Rattle.vortex_terms.specs.Term.{extension, fixed_size_list, list, structure};
 ghost use Rattle.vortex_types.specs.DTypes.{term_of};
@@ -11,7 +11,10 @@ ghost use Rattle.vortex_node_rows.specs.Encodings.{encoding_in};
 ghost use Rattle.vortex_node_rows.specs.RowsOf.{elements_of, field_rows_of, fixed_lists, most_rows, offset_lists, only_rows_of, storage_rows, structs};
 ghost use Rattle.vortex_array.specs.Answers.{Answers};
 ghost use Rattle.vortex_array.specs.Decoded.{lists_in};
-ghost use Rattle.vortex_array.specs.Content.{column_rows, held_rows, AreFields, IsColumn, IsMask, IsShaped};
+ghost use Rattle.vortex_array.specs.Agreement.{part, PartsAgree};
+ghost use Rattle.vortex_array.specs.ArrayNode.{array_child, array_nodes_before, no_array_nodes};
+ghost use Rattle.vortex_array.specs.inner.Agreeing.{field_parts, HeldAgrees};
+ghost use Rattle.vortex_array.specs.Content.{column_nodes, column_rows, held_node, held_rows, mask_nodes, AreFields, IsColumn, IsMask, IsShaped};
 
 use crate::context::ArrayContext;
 use crate::decode::{decode, validity};
@@ -23,6 +26,7 @@ use vortex_body::NodeParts;
 use vortex_leaves::{Offsets, one_buffer};
 use vortex_mask::Mask;
 use vortex_names::Nullability;
+use vortex_node_rows::Encoding;
 use vortex_types::{DType, ExtDType, StructFields};
 use vortex_wire::ListMetadata;
 
@@ -44,6 +48,9 @@ fn elements(
         (nodes_from nodes.now) (term_of dtype.now) (is_nullable nullability) count n) }
     ensures column { IfOk result (λ p. IsColumn (term_of dtype.now) count p.0) }
     ensures mask { IfOk result (λ p. IsMask n (is_nullable nullability) p.1) }
+    ensures parts { IfOk result (λ p. PartsAgree (encoding_in context.now) n
+        (part (term_of dtype.now) (Some count) ∷ []) (nodes_from nodes.now)
+        (array_child p.0.node (mask_nodes n p.1))) }
 {
     let [first, others @ ..] = nodes else {
         return Err(ArrayError::Malformed);
@@ -71,6 +78,8 @@ pub(crate) fn lists(
     ensures shape { IfOk result (λ h.
         IsShaped h.content (list (term_of element.now) (is_nullable nullability)) n) }
     ensures mask { IfOk result (λ h. IsMask n (is_nullable nullability) h.validity) }
+    ensures node { IfOk result (λ h. HeldAgrees (encoding_in context.now) Encoding.List
+        (list (term_of element.now) (is_nullable nullability)) n parts.now (held_node n h)) }
 {
     let Ok(metadata) = ListMetadata::read(parts.metadata()) else {
         return Err(ArrayError::Malformed);
@@ -114,6 +123,8 @@ pub(crate) fn fixed_lists(
         IsShaped h.content
         (fixed_size_list (term_of element.now) size (is_nullable nullability)) n) }
     ensures mask { IfOk result (λ h. IsMask n (is_nullable nullability) h.validity) }
+    ensures node { IfOk result (λ h. HeldAgrees (encoding_in context.now) Encoding.FixedSizeList
+        (fixed_size_list (term_of element.now) size (is_nullable nullability)) n parts.now (held_node n h)) }
 {
     if parts.buffer_count() != 0 {
         return Err(ArrayError::Malformed);
@@ -146,6 +157,9 @@ fn only_array(
     ensures rows { Answers (λ a. a.rows) result
         (only_rows_of (encoding_in context.now) (nodes_from nodes.now) (term_of dtype.now) n) }
     ensures column { IfOk result (IsColumn (term_of dtype.now) n) }
+    ensures parts { IfOk result (λ a. PartsAgree (encoding_in context.now) n
+        (part (term_of dtype.now) (Some n) ∷ []) (nodes_from nodes.now)
+        (array_child a.node no_array_nodes)) }
 {
     let [child, others @ ..] = nodes else {
         return Err(ArrayError::Malformed);
@@ -174,6 +188,8 @@ pub(crate) fn structs(
     ensures shape { IfOk result (λ h.
         IsShaped h.content (structure fields.now (is_nullable nullability)) n) }
     ensures mask { IfOk result (λ h. IsMask n (is_nullable nullability) h.validity) }
+    ensures node { IfOk result (λ h. HeldAgrees (encoding_in context.now) Encoding.Struct
+        (structure fields.now (is_nullable nullability)) n parts.now (held_node n h)) }
 {
     if parts.buffer_count() != 0 {
         return Err(ArrayError::Malformed);
@@ -207,6 +223,8 @@ pub(crate) fn extension(
     ensures shape { IfOk result (λ h.
         IsShaped h.content (extension ext.now.id ext.now.storage ext.now.metadata) n) }
     ensures mask { IfOk result (λ h. IsMask n false h.validity) }
+    ensures node { IfOk result (λ h. HeldAgrees (encoding_in context.now) Encoding.Ext
+        (extension ext.now.id ext.now.storage ext.now.metadata) n parts.now (held_node n h)) }
 {
     if parts.buffer_count() != 0 {
         return Err(ArrayError::Malformed);
@@ -237,6 +255,9 @@ fn field_arrays(
         (is_nullable nullability) n) }
     ensures fields { IfOk result (λ p. AreFields n fields.now p.0.items) }
     ensures mask { IfOk result (λ p. IsMask n (is_nullable nullability) p.1) }
+    ensures parts { IfOk result (λ p. PartsAgree (encoding_in context.now) n
+        (field_parts fields.now n) (nodes_from nodes.now)
+        (array_nodes_before (column_nodes p.0.items) (mask_nodes n p.1))) }
 {
     let count = fields.nfields();
     let mut arrays = Vec::with_capacity(alloc, count)?;

@@ -2,6 +2,7 @@
 #![tactic(auto)]
 
 mod access;
+mod agreement;
 mod array;
 mod compare;
 mod compare_rows;
@@ -26,6 +27,7 @@ mod select;
 mod uniform;
 mod values;
 
+pub use agreement::agreement_is_worked;
 pub use context::ArrayContext;
 pub use error::ArrayError;
 pub use held::Array;

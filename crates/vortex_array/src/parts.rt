@@ -1,11 +1,12 @@
 //! What arrays are read from.
 
-ghost use Rattle.std.specs.Prelude.{◌≡◌, IfOk};
+ghost use Rattle.std.specs.Prelude.{◌≡◌, IfOk, Some};
 ghost use Rattle.vortex_terms.specs.Types.{IsBytes};
 ghost use Rattle.vortex_types.specs.DTypes.{term_of};
 ghost use Rattle.vortex_body.specs.Reading.{node_of};
 ghost use Rattle.vortex_node_rows.specs.Encodings.{encoding_in};
 ghost use Rattle.vortex_node_rows.specs.RowsOf.{rows_of};
+ghost use Rattle.vortex_array.specs.Agreement.{Agrees};
 ghost use Rattle.vortex_array.specs.Answers.{Answers};
 
 use crate::context::ArrayContext;
@@ -73,6 +74,8 @@ impl ArrayParts {
         ensures rows { Answers (λ a. a.rows) result
             (rows_of (encoding_in ctx.now) self.now (term_of dtype.now) rows) }
         ensures dtype { IfOk result (λ a. a.dtype ≡ term_of dtype.now) }
+        ensures node { IfOk result (λ a.
+            Agrees (encoding_in ctx.now) (term_of dtype.now) (Some rows) self.now a.node) }
     {
         decode(alloc, ctx, &self.node, dtype, rows)
     }

@@ -1,16 +1,22 @@
-use Rattle.std.proofs.Common.{rules, arith, ◌≡◌, ◌≤◌, ◌<◌, ◌∙◌, Some, None, ap, length}
+use Rattle.std.proofs.Common.{rules, arith, refl, ◌≡◌, ◌≤◌, ◌<◌, ◌∙◌, Some, None, ap, length}
 use Rattle.std.specs.Prelude.{IsTrue}
+use Rattle.std.proofs.lemmas.Grind.{common_steps}
 use Rattle.std.proofs.lemmas.List.{length-map}
+use Rattle.vortex_terms.specs.Term.{binary, boolean, decimal, primitive, utf8}
 use Rattle.vortex_terms.specs.Types.{field_count}
+use Rattle.vortex_number.specs.WholeKind.{whole_kind}
 use Rattle.vortex_types.specs.DTypes.{term_of}
 use Rattle.vortex_body.specs.Node.{node_encoding, nodes_from}
 use Rattle.vortex_names.specs.Nullable.{is_nullable}
 use Rattle.vortex_node_rows.specs.Encodings.{encoding_in}
 use Rattle.vortex_node_rows.specs.RowsOf.{most_rows, truth_of}
+use Rattle.vortex_node_rows.specs.declared.encoding.Encoding.TheVariants as encoding
 use Rattle.vortex_node_rows.proofs.RowsCounted.{rows_count}
+use Rattle.vortex_array.specs.Content.{held_node}
+use Rattle.vortex_array.proofs.Agreements.{agrees_by, first_agrees, leaf_agrees, list_agrees, only_agrees}
 use Rattle.vortex_array.proofs.Nodes.{lighter, read_children, others_bytes, others_fewer, many_refused, unknown_refused, known_refused, held_stands, held_count, held_fit}
 use Rattle.vortex_array.proofs.Refusals.{passes_on, column_read}
-use Rattle.vortex_array.proofs.FieldArrays.{begun_with, too_few_refused, first_fewer, first_bytes, stopped_refused, pushed, ended_refused, ended_some, all_fit}
+use Rattle.vortex_array.proofs.FieldArrays.{begun_with, too_few_refused, first_fewer, first_bytes, stopped_refused, pushed, ended_refused, ended_some, all_fit, all_agree}
 use Rattle.vortex_array.proofs.+decode.Goals as goal
 
 pub decode::binaries-validity-requires :
@@ -213,7 +219,7 @@ decode_nested::field_arrays-loop-i-preserved t c =
     (is_nullable c.args.nullability) c.args.n c.loop-i.i c.loop-i.arrays.items c.first-item.result
     (term_of c.in_ok-dtype.dtype) c.in_ok-decode.field-0 c.push.new.self.items c.loop-i.invariant
     c.in-len1-up.len_at_least c.first-item.is c.in_ok-dtype.ensures.field c.in_ok-decode.ensures.rows
-    c.in_ok-decode.ensures.dtype c.in_ok-push.ensures.items
+    c.in_ok-decode.ensures.dtype c.in_ok-decode.ensures.node c.in_ok-push.ensures.items
 
 pub decode_nested::field_arrays-validity-requires :
     goal.decode_nested::field_arrays-validity-requires
@@ -248,3 +254,71 @@ decode_nested::field_arrays-returns-clause-fields t c =
     all_fit (encoding_in c.args.context.now) (nodes_from c.args.nodes.now)
     (nodes_from c.loop-i.rest.now) c.args.fields.now
     (is_nullable c.args.nullability) c.args.n c.loop-i.i c.loop-i.arrays.items c.loop-i.invariant all
+
+pub decode::decode-returns-clause-node :
+    goal.decode::decode-returns-clause-node
+decode::decode-returns-clause-node t c =
+    let known : encoding_in c.args.context.now
+    (node_encoding c.args.parts.now) ≡ Some c.in-Some.encoding = search rules in
+    agrees_by (encoding_in c.args.context.now) c.in-Some.encoding (term_of c.args.dtype.now) c.args.n c.args.parts.now
+    (held_node c.args.n c.in_ok-held.held) c.made.result.node known c.in_ok-held.ensures.node c.made.ensures.node
+
+pub decode::bools-returns-clause-node :
+    goal.decode::bools-returns-clause-node
+decode::bools-returns-clause-node t c =
+    leaf_agrees (encoding_in c.args.context.now) encoding.Bool (boolean (is_nullable c.args.nullability)) c.args.n
+    c.args.parts.now c.in_ok-validity.validity refl
+
+pub decode::numbers-returns-clause-node :
+    goal.decode::numbers-returns-clause-node
+decode::numbers-returns-clause-node t c =
+    leaf_agrees (encoding_in c.args.context.now) encoding.Primitive (primitive (whole_kind c.args.ptype)
+    (is_nullable c.args.nullability)) c.args.n c.args.parts.now c.in_ok-validity.validity refl
+
+pub decode::decimals-returns-clause-node :
+    goal.decode::decimals-returns-clause-node
+decode::decimals-returns-clause-node t c =
+    leaf_agrees (encoding_in c.args.context.now) encoding.Decimal (decimal c.args.dtype.precision c.args.dtype.scale
+    (is_nullable c.args.nullability)) c.args.n c.args.parts.now c.in_ok-validity.validity refl
+
+pub decode::binaries-returns-clause-node :
+    goal.decode::binaries-returns-clause-node
+decode::binaries-returns-clause-node t c =
+    leaf_agrees (encoding_in c.args.context.now) encoding.VarBin (binary (is_nullable c.args.nullability)) c.args.n
+    c.args.parts.now c.in_ok-validity.validity refl
+
+pub decode::texts-returns-clause-node :
+    goal.decode::texts-returns-clause-node
+decode::texts-returns-clause-node t c =
+    leaf_agrees (encoding_in c.args.context.now) encoding.VarBin (utf8 (is_nullable c.args.nullability)) c.args.n
+    c.args.parts.now c.in_ok-validity.validity refl
+
+pub decode_nested::elements-returns-clause-parts :
+    goal.decode_nested::elements-returns-clause-parts
+decode_nested::elements-returns-clause-parts t c =
+    first_agrees (encoding_in c.args.context.now) c.args.nodes.now c.first-item.result (term_of c.args.dtype.now)
+    (Some c.args.count) c.args.n c.in_ok-elements.elements.node c.in_ok-validity.validity c.in-len1-up.len_at_least
+    c.first-item.is c.in_ok-elements.ensures.node
+
+pub decode_nested::only_array-returns-clause-parts :
+    goal.decode_nested::only_array-returns-clause-parts
+decode_nested::only_array-returns-clause-parts t c =
+    only_agrees c.decode.result (encoding_in c.args.context.now) c.args.nodes.now c.child-item.result
+    (term_of c.args.dtype.now) c.args.n c.in-len1-up.len_at_least c.child-item.is c.decode.ensures.node
+
+pub decode_nested::field_arrays-returns-clause-parts :
+    goal.decode_nested::field_arrays-returns-clause-parts
+decode_nested::field_arrays-returns-clause-parts t c =
+    let all : field_count c.args.fields.now ≡ c.loop-i.i = omega
+    (arith, c.nfields-count.ensures, c.loop-i-test.false, c.loop-i.auto.i-end) in
+    all_agree (encoding_in c.args.context.now) (nodes_from c.args.nodes.now) (nodes_from c.loop-i.rest.now)
+    c.args.fields.now (is_nullable c.args.nullability) c.args.n c.loop-i.i c.loop-i.arrays.items
+    c.in_ok-validity.validity c.loop-i.invariant all
+
+pub decode_nested::lists-returns-clause-node :
+    goal.decode_nested::lists-returns-clause-node
+decode_nested::lists-returns-clause-node t c =
+    let same : c.in_ok-new.field-0.value ≡ c.in_ok-elements.elements = first_of (search rules, grind (arith, common_steps)) in
+    list_agrees (encoding_in c.args.context.now) (term_of c.args.element.now) (is_nullable c.args.nullability)
+    c.in-Ok.metadata.elements c.args.n c.args.parts.now (nodes_from c.children.result.now) c.in_ok-elements.elements
+    c.in_ok-new.field-0.value c.in_ok-elements.validity c.children.ensures same c.in_ok-elements.ensures.parts
