@@ -2,8 +2,14 @@
 #![tactic(auto)]
 
 #[cfg(test)]
+mod bodies;
+#[cfg(test)]
 mod made_tests;
 #[cfg(test)]
 mod nested;
 #[cfg(test)]
+mod orders;
+#[cfg(test)]
 mod tests;
+#[cfg(test)]
+mod told;
