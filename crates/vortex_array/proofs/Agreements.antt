@@ -1,6 +1,6 @@
 -- Nodes of arrays that agree with those of bodies.
-use Rattle.std.proofs.Common.{◌≡◌, ◌≤◌, ◌∙◌, ℕ, suc, List, [], ◌∷◌, ◌++◌, ◌*◌, Bool, true, false, Option, Some, None, length, map, get_or, inl, inr, refl, sym, ap, subst}
-use Rattle.std.specs.Prelude.{if◌then◌else◌, Result, Ok, Err, IfOk, IfSome}
+use Rattle.std.proofs.Common.{◌≡◌, ◌≤◌, ◌∙◌, ℕ, List, [], ◌∷◌, ◌++◌, ◌*◌, Bool, true, false, Option, Some, None, length, map, get_or, inl, inr, refl, sym, ap, subst}
+use Rattle.std.specs.Prelude.{if◌then◌else◌, Result, Ok, Err, IfOk}
 use Rattle.vortex_terms.specs.Term.{Term, structure, list, extension, fixed_size_list, Fields, no_fields, field}
 use Rattle.vortex_terms.specs.Types.{types_of}
 use Rattle.vortex_body.specs.Node.{Node, node, Nodes, no_nodes, child, nodes_from, node_encoding, node_children}
@@ -8,9 +8,9 @@ use Rattle.vortex_node_rows.specs.declared.encoding.Encoding.{Encoding}
 use Rattle.vortex_node_rows.specs.declared.encoding.Encoding.TheVariants as encoding
 use Rattle.vortex_node_rows.specs.RowsOf.{Validity}
 use Rattle.vortex_array.specs.declared.error.ArrayError.{ArrayError}
-use Rattle.vortex_array.specs.ArrayNode.{ArrayNode, array_node, ArrayNodes, no_array_nodes, array_child, array_encoding, array_row_count, array_children, array_nodes_before}
+use Rattle.vortex_array.specs.ArrayNode.{ArrayNode, array_node, ArrayNodes, no_array_nodes, array_child, array_nodes_before}
 use Rattle.vortex_array.specs.Agreement.{Part, part, parts_in, AreAside, Agrees, PartsAgree}
-use Rattle.vortex_array.specs.inner.Agreeing.{field_parts, HeldAgrees}
+use Rattle.vortex_array.specs.inner.Agreeing.{HeldAgrees}
 use Rattle.vortex_array.specs.Column.{Column}
 use Rattle.vortex_array.specs.Content.{has_false, mask_nodes, column_nodes}
 use Rattle.vortex_array.proofs.Nodes.{first_rest}

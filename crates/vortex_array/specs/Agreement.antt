@@ -8,7 +8,7 @@ use Rattle.std.specs.Prelude.{◌≡◌, ◌⊎◌, ◌*◌, ℕ, List, [], ◌�
 use Rattle.std.specs.Option.{option_map}
 use Rattle.vortex_terms.specs.Term.{Term, structure, list, extension, fixed_size_list}
 use Rattle.vortex_terms.specs.Types.{types_of}
-use Rattle.vortex_body.specs.Node.{Node, node, Nodes, no_nodes, child}
+use Rattle.vortex_body.specs.Node.{Node, node, Nodes, child}
 use Rattle.vortex_node_rows.specs.declared.encoding.Encoding.{Encoding}
 use Rattle.vortex_node_rows.specs.declared.encoding.Encoding.TheVariants as encoding
 use Rattle.vortex_array.specs.ArrayNode.{ArrayNode, array_node, ArrayNodes, no_array_nodes, array_child}

@@ -224,5 +224,7 @@ fn errors_are_numbered(rt: HostRuntime) {
     };
     assert!(rt; code.number() == 6);
     assert!(rt; ArrayError::Malformed.number() == 1);
+    assert!(rt; ArrayError::CodesNotUnsigned.number() == 5);
+    assert!(rt; ArrayError::CastRefused { row: 6 }.number() == 7);
     assert!(rt; ArrayError::OutOfMemory.number() == 8);
 }
