@@ -2,11 +2,9 @@
 #![tactic(auto)]
 
 #[cfg(test)]
-<<<<<<< HEAD
-mod compared;
-=======
 mod bodies;
->>>>>>> 352d2e8d489d42d712f63db4437f886675715eeb
+#[cfg(test)]
+mod compared;
 #[cfg(test)]
 mod made_tests;
 #[cfg(test)]
