@@ -27,7 +27,7 @@ mod select;
 mod uniform;
 mod values;
 
-pub use agreement::agreement_is_worked;
+pub use agreement::{agreement_is_worked, nodes_are_worked};
 pub use context::ArrayContext;
 pub use error::ArrayError;
 pub use held::Array;
