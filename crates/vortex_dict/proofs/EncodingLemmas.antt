@@ -1,5 +1,5 @@
 -- Rows as values and codes, one row on and at the end.
-use Rattle.std.proofs.Common.{◌≡◌, ℕ, ◌+◌, ◌^◌, ◌<◌, ◌≤◌, inl, inr, Bool, true, false, not, ◌&&◌}
+use Rattle.std.proofs.Common.{◌≡◌, ℕ, ◌+◌, ◌-◌, ◌^◌, ◌<◌, ◌≤◌, inl, inr, Bool, true, false, not, ◌&&◌}
 use Rattle.std.proofs.Common.{◌||◌, cond, true≢false, Some, None, List, [], ◌∷◌, ◌++◌, length, take}
 use Rattle.std.proofs.Common.{get_or, refl, ap, sym, ◌∙◌, subst, arith}
 use Rattle.std.specs.List.{sum_by}
@@ -9,8 +9,9 @@ use Rattle.std.proofs.lemmas.List.Sums.{sum_by-cons, sum_by-append}
 use Rattle.vortex_terms.specs.Row.{Row, null_row}
 use Rattle.vortex_terms.specs.Distinct.{distinct, first_place, codes_of}
 use Rattle.vortex_terms.specs.DistinctLaws.{distinct-push, distinct-stands, codes_of-push}
-use Rattle.vortex_dict.specs.Encoding.{stands, is_stop, stops_at, Encodes, EncodesPart, PassesSize}
+use Rattle.vortex_dict.specs.Encoding.{stands, is_stop, stops_at, Encodes, EncodesPart, IsFull}
 use Rattle.vortex_dict.specs.inner.Step.{EncodesValue}
+use Rattle.vortex_dict.proofs.SizeLemmas.{full_from}
 
 module _ (over : List Row → Row → Bool) (held rows : List Row) where
   -- what is known after the first i rows
@@ -88,13 +89,11 @@ module _ (over : List Row → Row → Bool) (held rows : List Row) where
     pub part : (values' : List Row) → values' ≡ values → i ≤ length rows → EncodesPart over held rows values'
     part values' e l = record { rows_in = i; count = l; within = a.within; values_are = e ∙ a.values_are }
 
-    pub too_large : (size : Row → ℕ) (r : Row) → get_or rows i null_row ≡ r → i < length rows → stands r values ≡ false → over values r ≡ false → 2 ^ 32 ≤ sum_by size values + size r → PassesSize over size held rows
-    too_large size r e l s o p = record {
-      rows_in = i + 1;
-      count = omega (arith, l);
-      within = within_more (stop_is r e ∙ ap (λ b. not b && over values r) s ∙ o);
-      bytes = (let all = ap (sum_by size) (distinct_more r e l ∙ ap (λ b. cond b values (values ++ r ∷ [])) s) ∙ sum_by-append size values (r ∷ []) in let one = sum_by-cons size r [] in omega (arith, all, one, p));
-    }
+    pub too_large : (size : Row → ℕ) (r : Row) → get_or rows i null_row ≡ r → i < length rows → stands r values ≡ false → over values r ≡ false → 2 ^ 32 ≤ sum_by size values + size r → IsFull over size held rows
+    too_large size r e l s o p =
+        let all = ap (sum_by size) (distinct_more r e l ∙ ap (λ b. cond b values (values ++ r ∷ [])) s) ∙ sum_by-append size values (r ∷ []) in
+        let one = sum_by-cons size r [] in
+        full_from size over held rows (length rows - (i + 1)) (i + 1) (omega (arith, l)) (within_more (stop_is r e ∙ ap (λ b. not b && over values r) s ∙ o)) (omega (arith, all, one, p))
 
     -- one row more, as encoding a value tells it
     module _ (r : Row) (values' : List Row) (e : get_or rows i null_row ≡ r) (l : i < length rows) where

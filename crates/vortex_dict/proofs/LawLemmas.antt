@@ -19,7 +19,7 @@ use Rattle.vortex_dict.proofs.BytesLemmas.{counted_bound, counted_most}
 use Rattle.vortex_terms.specs.Row.{Row, null_row, is_null}
 use Rattle.vortex_terms.specs.Distinct.{distinct, codes_of}
 use Rattle.vortex_terms.specs.DistinctLaws.{distinct-shortest}
-use Rattle.vortex_dict.specs.Encoding.{stands, stops_at, Encodes, PassesSize}
+use Rattle.vortex_dict.specs.Encoding.{stands, stops_at, Encodes, IsFull}
 use Rattle.vortex_dict.proofs.SizeLemmas.{all_too_large}
 
 module _ (over : List Row → Row → Bool) (rows values : List Row) (codes : List ℕ) (e : Encodes over [] rows values codes) where
@@ -155,11 +155,16 @@ bytes_whole d rows values codes codes' m e c n s h =
     (all.0, sym c ∙ all.1)
 
 pub bytes_large : (d : Dictionary) (rows : List Row) → d ≡ unlimited
-    → PassesSize (bytes_over (unsigned w64) d.constraints) byte_count d.values rows
+    → IsFull (bytes_over (unsigned w64) d.constraints) byte_count d.values rows
     → 2 ^ 32 ≤ sum_by byte_count (distinct rows)
 bytes_large d rows m p =
     all_too_large byte_count (bytes_over (unsigned w64) no_limits) rows
-    (subst (λ k. PassesSize (bytes_over (unsigned w64) k.constraints) byte_count k.values rows) m p)
+    (subst (λ k. IsFull (bytes_over (unsigned w64) k.constraints) byte_count k.values rows) m p)
+
+-- values of fewer than 2^32 bytes are not those of rows that are too large
+pub small_whole : (size : Row → ℕ) (rows values : List Row) → values ≡ distinct rows
+    → sum_by size values < 2 ^ 32 → 2 ^ 32 ≤ sum_by size (distinct rows) → ⊥
+small_whole size rows values e s h = let same = ap (sum_by size) e in omega (arith, same, s, h)
 
 pub numbers_whole : (kind : PType) (d : Dictionary) (rows values : List Row) (codes codes' : List ℕ)
     → d ≡ unlimited
@@ -171,8 +176,8 @@ numbers_whole kind d rows values codes codes' m e c n =
     (all.0, sym c ∙ all.1)
 
 pub numbers_large : (kind : PType) (d : Dictionary) (rows : List Row) → d ≡ unlimited
-    → PassesSize (numbers_over (unsigned w64) (byte_width_of kind) d.constraints) (λ r. byte_width_of kind) d.values rows
+    → IsFull (numbers_over (unsigned w64) (byte_width_of kind) d.constraints) (λ r. byte_width_of kind) d.values rows
     → 2 ^ 32 ≤ sum_by (λ r. byte_width_of kind) (distinct rows)
 numbers_large kind d rows m p =
     all_too_large (λ r. byte_width_of kind) (numbers_over (unsigned w64) (byte_width_of kind) no_limits) rows
-    (subst (λ k. PassesSize (numbers_over (unsigned w64) (byte_width_of kind) k.constraints) (λ r. byte_width_of kind) k.values rows) m p)
+    (subst (λ k. IsFull (numbers_over (unsigned w64) (byte_width_of kind) k.constraints) (λ r. byte_width_of kind) k.values rows) m p)

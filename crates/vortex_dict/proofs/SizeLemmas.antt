@@ -1,7 +1,7 @@
 -- What the distinct rows sum to, with more rows.
 use Rattle.std.proofs.Common.{◌≡◌, ℕ, zero, suc, ◌+◌, ◌-◌, ◌^◌, ◌<◌, ◌≤◌, inl, inr, Bool, true}
 use Rattle.std.proofs.Common.{false, cond, true≢false, List, [], ◌∷◌, ◌++◌, length, take, get_or}
-use Rattle.std.proofs.Common.{refl, ap, sym, ◌∙◌, arith}
+use Rattle.std.proofs.Common.{refl, ap, sym, subst, ◌∙◌, arith}
 use Rattle.std.specs.List.{list_any, sum_by}
 use Rattle.std.proofs.lemmas.Bool.{cases_lt}
 use Rattle.std.proofs.lemmas.List.{append_assoc, take_all, take_more}
@@ -10,7 +10,7 @@ use Rattle.vortex_terms.specs.Row.{Row, null_row}
 use Rattle.vortex_terms.specs.Order.{row_eq}
 use Rattle.vortex_terms.specs.Distinct.{distinct}
 use Rattle.vortex_terms.specs.DistinctLaws.{distinct-push}
-use Rattle.vortex_dict.specs.Encoding.{Encodes, PassesSize}
+use Rattle.vortex_dict.specs.Encoding.{stops_at, Encodes, IsFull}
 
 module _ (size : Row → ℕ) where
   sum_more : (rows : List Row) (r : Row)
@@ -43,9 +43,46 @@ module _ (size : Row → ℕ) where
       let more = sum_more (held ++ take before rows) r in
       omega (arith, rest, sums, more)
 
+  -- where some of these first rows have values of so many bytes, so have all of them
+  pub full_from : (over : List Row → Row → Bool) (held rows : List Row) (left n : ℕ)
+      → n + left ≡ length rows → ((i : ℕ) → i < n → stops_at over held rows i ≡ false)
+      → 2 ^ 32 ≤ sum_by size (distinct (held ++ take n rows)) → IsFull over size held rows
+  full_from over held rows zero n e w b = record {
+    rows_in = n;
+    count = omega (arith, e);
+    within = w;
+    stops = λ l. absurd (omega (arith, l, e));
+    bytes = b;
+  }
+  full_from over held rows (suc left) n e w b =
+      by (stops_at over held rows n) refl
+      (λ s. full_from over held rows left (n + 1) (omega (arith, e)) (next s)
+      (let more = sum_first held rows n 1 (n + 1) (omega arith) (omega (arith, e)) in
+      omega (arith, more, b)))
+    where
+      next : stops_at over held rows n ≡ false
+          → (i : ℕ) → i < n + 1 → stops_at over held rows i ≡ false
+      next s i l = elim (cases_lt i n) [
+        | inl h ↦ w i h
+        | inr h ↦ (let same : n ≡ i = omega (arith, l, h) in
+            subst (λ k. stops_at over held rows k ≡ false) same s)
+      ]
+
+      by : (x : Bool) → stops_at over held rows n ≡ x
+          → (stops_at over held rows n ≡ false → IsFull over size held rows)
+          → IsFull over size held rows
+      by true s rest = record {
+        rows_in = n;
+        count = omega (arith, e);
+        within = w;
+        stops = λ l. s;
+        bytes = b;
+      }
+      by false s rest = rest s
+
   pub not_too_large : (over : List Row → Row → Bool) (held rows values : List Row) (codes : List ℕ)
       → Encodes over held rows values codes → sum_by size values < 2 ^ 32
-      → PassesSize over size held rows → ⊥
+      → IsFull over size held rows → ⊥
   not_too_large over held rows values codes e s p = elim (cases_lt (length codes) p.rows_in) [
     | inl l ↦ true≢false (sym (e.stops (omega (arith, l, p.count))) ∙ p.within (length codes) l)
     | inr g ↦ (let n = p.rows_in in
@@ -55,7 +92,7 @@ module _ (size : Row → ℕ) where
   ]
 
   pub all_too_large : (over : List Row → Row → Bool) (rows : List Row)
-      → PassesSize over size [] rows → 2 ^ 32 ≤ sum_by size (distinct rows)
+      → IsFull over size [] rows → 2 ^ 32 ≤ sum_by size (distinct rows)
   all_too_large over rows p =
       let n = p.rows_in in
       let whole = length rows in

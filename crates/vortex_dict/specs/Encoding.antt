@@ -2,7 +2,7 @@
 --     stops_at              whether the row at a place is new and over a limit
 --     Encodes               what values and codes are made of rows, beside values that are held
 --     EncodesPart           what values a refusal leaves
---     PassesSize            that the values would have more bytes than they may
+--     IsFull                that the values would have more bytes than they may
 --     code_number           the number that a code is
 -- `over` tells whether a value is over a limit beside the values so far.
 use Rattle.std.specs.Prelude.{◌≡◌, ℕ, ◌^◌, ◌<◌, ◌≤◌, Bool, true, false, not, ◌&&◌, List}
@@ -43,11 +43,12 @@ module _ (over : List Row → Row → Bool) where
     pub within : (i : ℕ) → i < rows_in → stops_at held rows i ≡ false
     pub values_are : values ≡ distinct (held ++ take rows_in rows)
 
-  -- of some of these first rows the values have 2^32 bytes or more
-  pub record PassesSize (size : Row → ℕ) (held rows : List Row) : Type 0 where
+  -- the rows before the first new value over a limit have values of 2^32 bytes or more
+  pub record IsFull (size : Row → ℕ) (held rows : List Row) : Type 0 where
     pub rows_in : ℕ
     pub count : rows_in ≤ length rows
     pub within : (i : ℕ) → i < rows_in → stops_at held rows i ≡ false
+    pub stops : rows_in < length rows → stops_at held rows rows_in ≡ true
     pub bytes : 2 ^ 32 ≤ sum_by size (distinct (held ++ take rows_in rows))
 
 -- the number that a code is

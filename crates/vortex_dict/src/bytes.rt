@@ -1,7 +1,7 @@
 //! Rows of bytes as values and codes.
 
 ghost use Rattle.std.specs.Prelude.{◌≡◌, ℕ, ◌+◌, ◌*◌, ◌^◌, ◌<◌, ◌≤◌, [], map, length, pos, false};
-ghost use Rattle.std.specs.Prelude.{IfErr, IfOk, OnErr, Err, Some, None, IsTrue, cond};
+ghost use Rattle.std.specs.Prelude.{IfErr, IfOk, IsErr, OnErr, Err, Some, None, IsTrue, cond};
 ghost use Rattle.std.specs.Prelude.{◌==◌, ◌↔◌, ◌-◌, if◌then◌else◌};
 ghost use Rattle.std.specs.List.{sum_by};
 ghost use Rattle.std.specs.Option.{option_map, unwrap_or};
@@ -12,7 +12,7 @@ ghost use Rattle.vortex_codes.specs.Keys.{keys_of};
 ghost use Rattle.vortex_codes.specs.Refusals.{IsOfSize};
 ghost use Rattle.vortex_codes.specs.Table.{IsParted};
 ghost use Rattle.vortex_dict.specs.KeyRows.{bytes_or_null};
-ghost use Rattle.vortex_dict.specs.Encoding.{stands, Encodes, EncodesPart, PassesSize, code_number};
+ghost use Rattle.vortex_dict.specs.Encoding.{stands, Encodes, EncodesPart, IsFull, code_number};
 ghost use Rattle.vortex_dict.specs.inner.Step.{EncodesValue};
 ghost use Rattle.vortex_dict.specs.Limits.{Dictionary, byte_count, counted, over_by, bytes_over};
 
@@ -216,7 +216,8 @@ impl<Code: CodeType, H: KeyHash> BytesDictEncoder<Code, H> {
     }
 
     /// The codes of the rows before the first new value over a limit. After a refusal the values
-    /// are those of some first rows.
+    /// are those of some first rows. Unless memory ran out, TooLarge comes exactly where the values
+    /// of the rows before that value, with those that are held, have 2^32 bytes or more.
     pub fn encode(&mut self, alloc: Global, rows: &BytesRows<'_>) -> Result<Vec<Code>, DictError>
         ensures encoded { IfOk result (λ codes. Encodes
             (bytes_over Code.format self.old.constraints) self.old.values
@@ -226,8 +227,10 @@ impl<Code: CodeType, H: KeyHash> BytesDictEncoder<Code, H> {
         ensures part { OnErr result (EncodesPart (bytes_over Code.format self.old.constraints)
             self.old.values (map bytes_or_null rows.now) self.new.values) }
         ensures too_large { result ≡ Err DictError.TooLarge
-            → PassesSize (bytes_over Code.format self.old.constraints) byte_count self.old.values
+            → IsFull (bytes_over Code.format self.old.constraints) byte_count self.old.values
             (map bytes_or_null rows.now) }
+        ensures full { IsFull (bytes_over Code.format self.old.constraints) byte_count
+            self.old.values (map bytes_or_null rows.now) → IsErr result }
         ensures errors { IfErr result (λ e. IsOfSize e) }
     {
         self.law();
@@ -235,10 +238,14 @@ impl<Code: CodeType, H: KeyHash> BytesDictEncoder<Code, H> {
         for i in 0..rows.len() {
             match self.encode_value(rows.get(i)) {
                 Ok(Some(code)) => codes.push(code)?,
-                Ok(None) => return Ok(codes),
+                Ok(None) => {
+                    self.law();
+                    return Ok(codes);
+                }
                 Err(e) => return Err(e),
             }
         }
+        self.law();
         Ok(codes)
     }
 }

@@ -1,6 +1,6 @@
 //! Whole columns as values and codes, without limits.
 
-ghost use Rattle.std.specs.Prelude.{◌≡◌, ◌^◌, ◌≤◌, map, IfErr, IfOk, Err};
+ghost use Rattle.std.specs.Prelude.{◌≡◌, ◌^◌, ◌≤◌, map, IfErr, IfOk, IsErr, Err};
 ghost use Rattle.std.specs.List.{sum_by};
 ghost use Rattle.vortex_number.specs.PType.{byte_width_of};
 ghost use Rattle.vortex_terms.specs.Distinct.{distinct, codes_of};
@@ -17,7 +17,8 @@ use crate::primitive_rows::PrimitiveRows;
 use std::alloc::Global;
 use vortex_codes::DictError;
 
-/// The values of all rows, in an encoder that may go on, and the code of each row.
+/// The values of all rows, in an encoder that may go on, and the code of each row. Unless memory
+/// ran out, TooLarge comes exactly where the values have 2^32 bytes or more.
 pub fn encode_all_bytes(
     alloc: Global,
     rows: &BytesRows<'_>,
@@ -27,6 +28,8 @@ pub fn encode_all_bytes(
     ensures constraints { IfOk result (λ p. p.0.constraints ≡ UNCONSTRAINED) }
     ensures too_large { result ≡ Err DictError.TooLarge
         → 2 ^ 32 ≤ sum_by byte_count (distinct (map bytes_or_null rows.now)) }
+    ensures full { 2 ^ 32 ≤ sum_by byte_count (distinct (map bytes_or_null rows.now))
+        → IsErr result }
     ensures errors { IfErr result (λ e. IsOfSize e) }
 {
     rows.law();
@@ -39,7 +42,8 @@ pub fn encode_all_bytes(
     Ok((encoder, codes))
 }
 
-/// The values of all rows, in an encoder that may go on, and the code of each row.
+/// The values of all rows, in an encoder that may go on, and the code of each row. Unless memory
+/// ran out, TooLarge comes exactly where the values have 2^32 bytes or more.
 pub fn encode_all_numbers<T: NativeValue>(
     alloc: Global,
     rows: &PrimitiveRows<'_, T>,
@@ -52,6 +56,8 @@ pub fn encode_all_numbers<T: NativeValue>(
     ensures too_large { result ≡ Err DictError.TooLarge
         → 2 ^ 32 ≤ sum_by (λ r. byte_width_of T.PTYPE)
         (distinct (map (number_or_null T.number) rows.now)) }
+    ensures full { 2 ^ 32 ≤ sum_by (λ r. byte_width_of T.PTYPE)
+        (distinct (map (number_or_null T.number) rows.now)) → IsErr result }
     ensures errors { IfErr result (λ e. IsOfSize e) }
 {
     let mut encoder = PrimitiveDictEncoder::<T, u64>::new(alloc, &UNCONSTRAINED);

@@ -9,7 +9,7 @@ ghost use Rattle.vortex_number.specs.PType.{byte_width_of, in_range};
 ghost use Rattle.vortex_number.specs.declared.ptype.PType.{PType};
 ghost use Rattle.vortex_terms.specs.Row.{Row, null_row};
 ghost use Rattle.vortex_terms.specs.Distinct.{distinct, codes_of};
-ghost use Rattle.vortex_dict.specs.Encoding.{Encodes, PassesSize};
+ghost use Rattle.vortex_dict.specs.Encoding.{Encodes, IsFull};
 ghost use Rattle.vortex_dict.specs.Limits.{byte_count, bytes_over, numbers_over};
 ghost use Rattle.vortex_dict.specs.Widths.{IsLeastFor, IsRowOf, most_possible};
 
@@ -48,11 +48,11 @@ pub fn dictionaries_are_shortest()
         → length values ≤ length others }
 {}
 
-/// Rows that are encoded to values of fewer than 2^32 bytes are not too large: no refusal says so.
+/// Rows that are encoded to values of fewer than 2^32 bytes are not too large.
 pub fn encoded_is_not_too_large()
     ensures { (over : List Row → Row → Bool) (size : Row → ℕ) (held rows values : List Row)
         (codes : List ℕ) → Encodes over held rows values codes → sum_by size values < 2 ^ 32
-        → PassesSize over size held rows → ⊥ }
+        → IsFull over size held rows → ⊥ }
 {}
 
 /// The code type of an encoder has each place that its limits allow: of rows of bytes as many as

@@ -1,7 +1,7 @@
 //! Rows of whole numbers as values and codes.
 
 ghost use Rattle.std.specs.Prelude.{◌≡◌, ℕ, ◌+◌, ◌*◌, ◌^◌, ◌<◌, ◌≤◌, [], map, length, pos, false};
-ghost use Rattle.std.specs.Prelude.{IfErr, IfOk, OnErr, Err, Some, IsTrue, ◌↔◌, not, ◌||◌};
+ghost use Rattle.std.specs.Prelude.{IfErr, IfOk, IsErr, OnErr, Err, Some, IsTrue, ◌↔◌, not, ◌||◌};
 ghost use Rattle.std.specs.Prelude.{nat_le};
 ghost use Rattle.std.specs.List.{sum_by};
 ghost use Rattle.std.specs.Option.{option_map};
@@ -10,7 +10,7 @@ ghost use Rattle.vortex_number.specs.PType.{byte_width_of};
 ghost use Rattle.vortex_terms.specs.Distinct.{distinct};
 ghost use Rattle.vortex_codes.specs.Refusals.{IsOfSize};
 ghost use Rattle.vortex_dict.specs.KeyRows.{number_or_null};
-ghost use Rattle.vortex_dict.specs.Encoding.{stands, Encodes, EncodesPart, PassesSize, code_number};
+ghost use Rattle.vortex_dict.specs.Encoding.{stands, Encodes, EncodesPart, IsFull, code_number};
 ghost use Rattle.vortex_dict.specs.inner.Step.{EncodesValue};
 ghost use Rattle.vortex_dict.specs.Limits.{Dictionary, most_values, numbers_over};
 
@@ -140,7 +140,8 @@ impl<T: NativeValue, Code: CodeType> PrimitiveDictEncoder<T, Code> {
     }
 
     /// The codes of the rows before the first new value over a limit. After a refusal the values
-    /// are those of some first rows.
+    /// are those of some first rows. Unless memory ran out, TooLarge comes exactly where the values
+    /// of the rows before that value, with those that are held, have 2^32 bytes or more.
     pub fn encode(
         &mut self,
         alloc: Global,
@@ -155,8 +156,11 @@ impl<T: NativeValue, Code: CodeType> PrimitiveDictEncoder<T, Code> {
             (byte_width_of T.PTYPE) self.old.constraints) self.old.values
             (map (number_or_null T.number) rows.now) self.new.values) }
         ensures too_large { result ≡ Err DictError.TooLarge
-            → PassesSize (numbers_over Code.format (byte_width_of T.PTYPE) self.old.constraints)
+            → IsFull (numbers_over Code.format (byte_width_of T.PTYPE) self.old.constraints)
             (λ r. byte_width_of T.PTYPE) self.old.values (map (number_or_null T.number) rows.now) }
+        ensures full { IsFull (numbers_over Code.format (byte_width_of T.PTYPE)
+            self.old.constraints) (λ r. byte_width_of T.PTYPE) self.old.values
+            (map (number_or_null T.number) rows.now) → IsErr result }
         ensures errors { IfErr result (λ e. IsOfSize e) }
     {
         self.law();
@@ -164,10 +168,14 @@ impl<T: NativeValue, Code: CodeType> PrimitiveDictEncoder<T, Code> {
         for i in 0..rows.len() {
             match self.encode_value(rows.get(i)) {
                 Ok(Some(code)) => codes.push(code)?,
-                Ok(None) => return Ok(codes),
+                Ok(None) => {
+                    self.law();
+                    return Ok(codes);
+                }
                 Err(e) => return Err(e),
             }
         }
+        self.law();
         Ok(codes)
     }
 }

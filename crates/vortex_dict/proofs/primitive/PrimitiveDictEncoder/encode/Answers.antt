@@ -6,7 +6,9 @@ use Rattle.vortex_terms.specs.Row.{null_row}
 use Rattle.vortex_dict.specs.KeyRows.{number_or_null}
 use Rattle.vortex_dict.specs.Encoding.{code_number}
 use Rattle.vortex_dict.specs.Limits.{numbers_over}
-use Rattle.vortex_dict.proofs.EncodingLemmas.{start, part, more_by, stops_by, part_by, too_large}
+use Rattle.vortex_dict.proofs.EncodingLemmas.{start, part, more_by, ends, stops_by, part_by}
+use Rattle.vortex_dict.proofs.EncodingLemmas.{too_large}
+use Rattle.vortex_dict.proofs.SizeLemmas.{not_too_large}
 use Rattle.vortex_dict.proofs.NumberLemmas.{sum_widths}
 use Rattle.vortex_dict.proofs.ValueLemmas.{err_is}
 use Rattle.vortex_dict.proofs.SliceLemmas.{got}
@@ -28,6 +30,14 @@ returns-in_err-push-in-Ok-Some-clause-part g c = on_err c.from_residual-in_err-p
 
 pub returns-in-Ok-None-clause-encoded : goal.returns-in-Ok-None-clause-encoded
 returns-in-Ok-None-clause-encoded g c = stops_by (numbers_over g.Code.WholeNumber.format (byte_width_of g.T.NativePType.PTYPE) c.args.self.now.constraints) _ _ _ _ _ c.loop-i.invariant.0 _ _ (got (number_or_null g.T.WholeNumber.number) c.args.rows.now c.loop-i.i _ null_row c.get.ensures) (let n = length-map c.args.rows.now (number_or_null g.T.WholeNumber.number) in omega (arith, n, c.loop-i-test.true, c.len-i-end.ensures)) (rw (c.loop-i.invariant.1, c.in-Ok-None.field-0-is) at c.in-Ok-None.ensures.encoded)
+
+pub returns-in-Ok-None-clause-full : goal.returns-in-Ok-None-clause-full
+returns-in-Ok-None-clause-full g c = λ p. absurd (not_too_large (λ r. byte_width_of g.T.NativePType.PTYPE) (numbers_over g.Code.WholeNumber.format (byte_width_of g.T.NativePType.PTYPE) c.args.self.now.constraints) _ _ _ _ (stops_by (numbers_over g.Code.WholeNumber.format (byte_width_of g.T.NativePType.PTYPE) c.args.self.now.constraints) _ _ _ _ _ c.loop-i.invariant.0 _ _ (got (number_or_null g.T.WholeNumber.number) c.args.rows.now c.loop-i.i _ null_row c.get.ensures) (let n = length-map c.args.rows.now (number_or_null g.T.WholeNumber.number) in omega (arith, n, c.loop-i-test.true, c.len-i-end.ensures)) (rw (c.loop-i.invariant.1, c.in-Ok-None.field-0-is) at c.in-Ok-None.ensures.encoded)) c.law-in-Ok-None.ensures.small p)
+
+pub returns-clause-full : goal.returns-clause-full
+returns-clause-full g c =
+    let n = length-map c.args.rows.now (number_or_null g.T.WholeNumber.number) in
+    λ p. absurd (not_too_large (λ r. byte_width_of g.T.NativePType.PTYPE) (numbers_over g.Code.WholeNumber.format (byte_width_of g.T.NativePType.PTYPE) c.args.self.now.constraints) _ _ _ _ (ends (numbers_over g.Code.WholeNumber.format (byte_width_of g.T.NativePType.PTYPE) c.args.self.now.constraints) _ _ _ _ _ c.loop-i.invariant.0 (omega (arith, n, c.loop-i-test.false, c.loop-i.auto.i-end, c.len-i-end.ensures)) (omega (arith, n, c.loop-i-test.false, c.loop-i.auto.i-end, c.len-i-end.ensures))) c.law-2.ensures.small p)
 
 pub returns-in-Err-clause-too_large : goal.returns-in-Err-clause-too_large
 returns-in-Err-clause-too_large g c = λ h. too_large (numbers_over g.Code.WholeNumber.format (byte_width_of g.T.NativePType.PTYPE) c.args.self.now.constraints) _ _ _ _ _ c.loop-i.invariant.0 (λ r. byte_width_of g.T.NativePType.PTYPE) _ (got (number_or_null g.T.WholeNumber.number) c.args.rows.now c.loop-i.i _ null_row c.get.ensures) (let n = length-map c.args.rows.now (number_or_null g.T.WholeNumber.number) in omega (arith, n, c.loop-i-test.true, c.len-i-end.ensures)) c.in-Err.ensures.new (rw c.loop-i.invariant.1 at c.in-Err.ensures.within) (let w = byte_width_of g.T.NativePType.PTYPE in let sum = sum_widths w c.loop-i.self.values in let one = mul-suc w (length c.loop-i.self.values) in let most = c.in-Err.ensures.too_large (ap (λ x. Err x) (err_is _ _ _ _ refl refl h)) in let next : length c.loop-i.self.values + 1 ≡ suc (length c.loop-i.self.values) = omega arith in let same = ap (λ n. w * n) next in omega (arith, sum, one, most, same))
