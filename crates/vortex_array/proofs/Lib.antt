@@ -22,3 +22,4 @@ pub mod NestedRows
 pub mod OffsetTests
 pub mod NestedMade
 pub mod MadeLeaves
+pub mod PlainNodes

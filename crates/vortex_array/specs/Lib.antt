@@ -13,3 +13,4 @@ pub mod ValuesAt
 pub mod ErrorNumber
 pub mod MadeNested
 pub mod MadeLeaves
+pub mod Canonical
