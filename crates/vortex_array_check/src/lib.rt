@@ -6,4 +6,6 @@ mod made_tests;
 #[cfg(test)]
 mod nested;
 #[cfg(test)]
+mod picked;
+#[cfg(test)]
 mod tests;
