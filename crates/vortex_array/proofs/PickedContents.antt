@@ -30,6 +30,7 @@ use Rattle.vortex_array.specs.declared.held.Content.TheVariants.{Nulls, Truths, 
 use Rattle.vortex_array.specs.declared.held.Array.TheInside.{Inside}
 use Rattle.vortex_array.proofs.PickLaws.{Below, picked-map, picked-zip, picked-replicate, length-picked, all_picked}
 use Rattle.vortex_array.proofs.PickedParts.{even_starts, even_picked}
+use Rattle.vortex_array.proofs.PlainNodes.{child_plain, columns_plain}
 
 -- ---- leaves
 
@@ -38,13 +39,13 @@ unfolding copies
 copies_picked n r ps b = sym (picked-replicate n r ps b)
 
 pub nulls_picked : (t : Term) (ps : List ℕ) (n : ℕ) → Below n ps → IsShaped Nulls t n → IsPickedContent t ps n Nulls Nulls
-nulls_picked null ps n b h = record { shape = tt; rows = copies_picked n null_row ps b }
+nulls_picked null ps n b h = record { shape = tt; rows = copies_picked n null_row ps b; canonical = λ e. e }
 nulls_picked _ ps n b h = absurd h
 
 pub truths_picked : (t : Term) (ps : List ℕ) (n : ℕ) (m k : List Bool) → Below n ps → IsShaped (Truths m) t n → k ≡ picked ps m
     → IsPickedContent t ps n (Truths m) (Truths k)
 truths_picked (boolean nl) ps n m k b h e =
-    record { shape = ap length e ∙ length-picked ps m (subst (λ j. Below j ps) (sym h) b); rows = ap (map truth_row) e ∙ sym (picked-map truth_row ps m) }
+    record { shape = ap length e ∙ length-picked ps m (subst (λ j. Below j ps) (sym h) b); rows = ap (map truth_row) e ∙ sym (picked-map truth_row ps m); canonical = λ e. e }
 truths_picked _ ps n m k b h e = absurd h
 
 pub numbers_long : (a : NumberBytes) → length (number_rows a) ≡ a.count
@@ -58,6 +59,7 @@ pub numbers_picked : (t : Term) (ps : List ℕ) (n : ℕ) (a b : NumberBytes) �
 numbers_picked (primitive k nl) ps n a b w h e = record {
   shape = (e.format ∙ h.0, e.count ∙ length-picked ps (number_rows a) (still_below ps n (number_rows a) w (numbers_long a ∙ h.1)));
   rows = e.rows;
+  canonical = λ k. k;
 }
 numbers_picked _ ps n a b w h e = absurd h
 
@@ -66,6 +68,7 @@ pub decimals_picked : (t : Term) (ps : List ℕ) (n : ℕ) (a b : NumberBytes) �
 decimals_picked (decimal p s nl) ps n a b w h e = record {
   shape = e.count ∙ length-picked ps (number_rows a) (still_below ps n (number_rows a) w (numbers_long a ∙ h));
   rows = e.rows;
+  canonical = λ k. k;
 }
 decimals_picked _ ps n a b w h e = absurd h
 
@@ -102,15 +105,15 @@ texts_same ps n a b w h e = (
 pub texts_picked : (t : Term) (ps : List ℕ) (n : ℕ) (a b : TextBytes) → Below n ps → IsShaped (Texts a) t n
     → text_pieces b ≡ picked ps (text_pieces a) → IsPickedContent t ps n (Texts a) (Texts b)
 texts_picked (utf8 nl) ps n a b w h e =
-    let p = texts_same ps n a b w h e in record { shape = p.0; rows = p.1 }
+    let p = texts_same ps n a b w h e in record { shape = p.0; rows = p.1; canonical = λ k. k }
 texts_picked (binary nl) ps n a b w h e =
-    let p = texts_same ps n a b w h e in record { shape = p.0; rows = p.1 }
+    let p = texts_same ps n a b w h e in record { shape = p.0; rows = p.1; canonical = λ k. k }
 texts_picked _ ps n a b w h e = absurd h
 
 pub constant_picked : (t : Term) (ps : List ℕ) (n : ℕ) (v w : ValueTerm) → Below n ps → IsShaped (Constant v) t n → w ≡ v
     → IsPickedContent t ps n (Constant v) (Constant w)
 constant_picked t ps n v w b h e =
-    rw e (record { shape = constant_shaped t n (length ps) v h; rows = copies_picked n (row_under t v) ps b })
+    rw e (record { shape = constant_shaped t n (length ps) v h; rows = copies_picked n (row_under t v) ps b; canonical = λ k. k })
   where
     constant_shaped : (t : Term) (n k : ℕ) (v : ValueTerm) → IsShaped (Constant v) t n → IsShaped (Constant v) t k
     constant_shaped t n k v h = h
@@ -129,6 +132,7 @@ lists_picked (list t nl) ps n os new es fs h p =
     record {
       shape = (p.dtype ∙ h.0, p.shape);
       rows = ap (map g) p.same ∙ sym (picked-map g ps (pieces os es.value.rows));
+      canonical = child_plain _ _ p.canonical;
     }
 lists_picked _ ps n os new es fs h p = absurd h
 
@@ -148,6 +152,7 @@ fixed_picked (fixed_size_list t j nl) ps n k es fs b h p =
     record {
       shape = (h.0, (p.dtype ∙ h.1.0, cut.0 ∙ ap (λ i. length ps * i) h.0));
       rows = ap (map g) cut.1 ∙ sym (picked-map g ps (chunks k n es.value.rows));
+      canonical = child_plain _ _ p.canonical;
     }
 fixed_picked _ ps n k es fs b h p = absurd h
 
@@ -158,6 +163,7 @@ pub storage_picked : (t : Term) (ps : List ℕ) (n : ℕ) (es fs : Rc Column Glo
 storage_picked (extension id t x) ps n es fs b h p = record {
   shape = (p.dtype ∙ h.0, ap length p.rows ∙ length-picked ps es.value.rows (subst (λ j. Below j ps) (sym h.1) b));
   rows = p.rows;
+  canonical = child_plain _ _ p.canonical;
 }
 storage_picked _ ps n es fs b h p = absurd h
 
@@ -204,6 +210,7 @@ pub structs_picked : (t : Term) (ps : List ℕ) (n : ℕ) (v w : Vec Column Glob
 structs_picked (structure fs nl) ps n v w b h p = record {
   shape = fields_picked n fs ps v.items w.items b h p;
   rows = ap (map list_row) (inside_picked n fs ps v.items w.items b h p) ∙ sym (picked-map list_row ps (inside_structs n (column_rows v.items)));
+  canonical = columns_plain ps v.items w.items p;
 }
 structs_picked _ ps n v w b h p = absurd h
 
@@ -224,7 +231,7 @@ none_picked ps (c ∷ cs) h = absurd (omega (arith, h))
 
 -- ---- masks and rows
 
-length-content : (t : Term) (n : ℕ) (c : Content) → IsShaped c t n → length (content_rows c t n) ≡ n
+pub length-content : (t : Term) (n : ℕ) (c : Content) → IsShaped c t n → length (content_rows c t n) ≡ n
 length-content t n c h = length_by t n c h
   where
     length_by : (t : Term) (n : ℕ) (c : Content) → IsShaped c t n → length (content_rows c t n) ≡ n

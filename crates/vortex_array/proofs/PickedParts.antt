@@ -71,6 +71,7 @@ lists_joined n os ps new old es h b e p =
       shape = subst (λ j. AreOffsets j (length es.rows) new) long shape;
       same = ap (λ l. pieces l es.rows) from ∙ ap (pieces (joined_offsets (map length ws))) all ∙ pieces_joined ws;
       dtype = p.dtype;
+      canonical = p.canonical;
     }
   where
     length_mapped : (ws : List (List Row)) → length (map (λ (l : List Row). length l) ws) ≡ length ws
@@ -89,7 +90,7 @@ lists_range n from to os new old es h le hi e same =
     ∙ sym (picked_range from to (pieces os old.rows) le (omega (arith, many, hi))) in
     let long : length new ≡ suc (length (from_on (to - from) from)) =
     ap length e ∙ length_range os from to le room ∙ ap suc (sym (length-from_on (to - from) from)) in
-    rw same (record { shape = record { count = long; rise = range.1; within = range.2 }; same = cut; dtype = refl })
+    rw same (record { shape = record { count = long; rise = range.1; within = range.2 }; same = cut; dtype = refl; canonical = λ k. k })
   where
     length_range : (os : List ℕ) (from to : ℕ) → from ≤ to → to < length os → length (slice_range os from (suc to)) ≡ suc (to - from)
     length_range os from to le room =
@@ -112,7 +113,7 @@ even_get k (suc n) xs (suc p) l =
     even_get k n (drop k xs) p (omega (arith, l)) ∙ ap (take (suc p * k - p * k)) (drop-drop (p * k) k xs ∙ ap (λ j. drop j xs) far)
     ∙ ap (λ j. take j (drop (suc p * k) xs)) span
 
-abbrev Even : {A : Type 0} → ℕ → List (List A) → Type 0
+abbrev pub Even : {A : Type 0} → ℕ → List (List A) → Type 0
 Even k cs = AllByRecursion (λ c. length c ≡ k) cs
 
 even_whole : {A : Type 0} (k n : ℕ) (xs : List A) → n * k ≤ length xs → Even k (chunks k n xs)
@@ -120,7 +121,7 @@ even_whole k zero xs h = tt
 even_whole k (suc n) xs h =
     (omega (arith, h, length-take k xs), even_whole k n (drop k xs) (omega (arith, h, length-drop k xs)))
 
-even_joined : {A : Type 0} (k : ℕ) (cs : List (List A)) → Even k cs → chunks k (length cs) (flat_map (λ c. c) cs) ≡ cs
+pub even_joined : {A : Type 0} (k : ℕ) (cs : List (List A)) → Even k cs → chunks k (length cs) (flat_map (λ c. c) cs) ≡ cs
 even_joined k [] h = refl
 even_joined {A = A} k (c ∷ cs) h =
     let ys : List A = flat_map (λ (c : List A). c) cs in
@@ -128,7 +129,7 @@ even_joined {A = A} k (c ∷ cs) h =
     ∙ ap (λ (l : List A). c ∷ chunks k (length cs) l) (drop_at c ys k h.0)
     ∙ ap (λ (l : List (List A)). c ∷ l) (even_joined k cs h.1)
 
-even_length : {A : Type 0} (k : ℕ) (cs : List (List A)) → Even k cs → length (flat_map (λ c. c) cs) ≡ length cs * k
+pub even_length : {A : Type 0} (k : ℕ) (cs : List (List A)) → Even k cs → length (flat_map (λ c. c) cs) ≡ length cs * k
 even_length k [] h = omega arith
 even_length {A = A} k (c ∷ cs) h =
     omega (arith, length-append c (flat_map (λ (c : List A). c) cs), h.0, even_length k cs h.1)

@@ -1,7 +1,8 @@
 -- What is picked of rows, by which rows are picked.
-use Rattle.std.proofs.Common.{◌≡◌, ◌≤◌, ◌<◌, ◌+◌, ◌-◌, ◌^◌, inl, inr, ℕ, zero, suc, List, [], ◌∷◌, ◌++◌, Bool, true, false, Some, take, map, length, get_or, refl, sym, ap, subst, ◌∙◌, arith, length-append, Bor, Vec, Global}
-use Rattle.std.specs.Prelude.{slice_get, slice_range, ◌||◌, Result, Ok, Err, IsErrAnd, MatchResult}
-use Rattle.std.specs.List.{All, flat_map, sum}
+use Rattle.std.proofs.Common.{◌≡◌, ◌≤◌, ◌<◌, ◌+◌, ◌-◌, ◌*◌, ◌^◌, ◌⊎◌, inl, inr, ℕ, zero, suc, List, [], ◌∷◌, ◌++◌, Bool, true, false, Some, take, map, length, get_or, refl, sym, ap, subst, ◌∙◌, arith, length-append, Bor, Vec, Global}
+use Rattle.std.specs.Prelude.{slice_get, slice_range, nat_lt, ◌||◌, Result, Ok, Err, IsErrAnd, MatchResult}
+use Rattle.std.specs.List.{All, AllByRecursion, flat_map, sum}
+use Rattle.std.proofs.lemmas.Bool.{ltb-true}
 use Rattle.std.proofs.lemmas.List.Elements.{All-from_get_or}
 use Rattle.std.proofs.lemmas.List.Sums.{sum_by-cons}
 use Rattle.vortex_terms.specs.Row.{null_row}
@@ -13,13 +14,15 @@ use Rattle.vortex_array.specs.declared.error.ArrayError.{ArrayError}
 use Rattle.vortex_array.specs.declared.error.ArrayError.TheVariants.{OutOfMemory}
 use Rattle.vortex_array.specs.declared.pick_rows.Picks.{Picks}
 use Rattle.vortex_array.specs.declared.pick_rows.Picks.TheVariants.{Range, Mask, Places}
+use Rattle.vortex_array.specs.declared.pick_parts.Parts.{Parts}
+use Rattle.vortex_array.specs.declared.pick_parts.Parts.TheVariants.{Even}
 use Rattle.vortex_array.specs.Column.{Column}
 use Rattle.vortex_terms.specs.Term.{Term, structure, Fields, no_fields, field}
 use Rattle.vortex_array.specs.Content.{AreFields, IsShaped}
 use Rattle.vortex_array.specs.declared.held.Content.TheVariants.{Structs}
 use Rattle.vortex_array.specs.Taken.{has_pieces, have_pieces, TakesMuch}
 use Rattle.vortex_array.specs.inner.Picked.{picked, from_on, IsPickedColumn}
-use Rattle.vortex_array.specs.inner.PickedPlaces.{any_pieces, places_in, ArePicks, PicksMuch, RefusesPick}
+use Rattle.vortex_array.specs.inner.PickedPlaces.{any_pieces, places_in, start_in, ArePicks, PicksMuch, RefusesPick}
 use Rattle.vortex_array.specs.inner.Spans.{spans, AreStarts}
 use Rattle.vortex_array.proofs.PickLaws.{Below, below_from_on, length-from_on, picked_range}
 use Rattle.vortex_array.proofs.PickPlaces.{below-spans, mask_below, picked-mask, picked-taken}
@@ -160,6 +163,26 @@ pub sizes_much : (start : ℕ → ℕ) (n end : ℕ) (ps : Bor (List ℕ)) (pick
 sizes_much start n end ps picks is h s few l =
     subst (λ (p : Picks). PicksMuch p true) (sym is)
     (inr (refl, much_repeats start n end ps.now s (subst (ArePicks n) is h) (omega (arith, l, few, length-spans start ps.now))))
+
+-- more elements than an array has are those of lists of which one is picked twice
+pub elements_much : (start : ℕ → ℕ) (n end : ℕ) (ps : Bor (List ℕ)) (picks : Picks) → picks ≡ Places ps → ArePicks n picks
+    → AreStarts start n end → end ≤ most_rows → most_rows < length (spans start ps.now) → PicksMuch picks true
+elements_much start n end ps picks is h s few l =
+    subst (λ (p : Picks). PicksMuch p true) (sym is)
+    (inr (refl, much_repeats start n end ps.now s (subst (ArePicks n) is h) (omega (arith, l, few))))
+
+-- so many elements in each list
+pub even_long : (k : ℕ) (ps : List ℕ) → length (spans (λ i. i * k) ps) ≡ length ps * k
+even_long k [] = omega arith
+even_long k (p ∷ ps) =
+    let one : suc p * k - p * k ≡ k = omega arith in
+    omega (arith, length-append (from_on (suc p * k - p * k) (p * k)) (spans (λ i. i * k) ps), length-from_on (suc p * k - p * k) (p * k), one, even_long k ps)
+
+pub even_many : (parts : Parts) (k : ℕ) (ps : List ℕ) (r : ℕ) → parts ≡ Even k → r ≤ length ps * k → nat_lt 4294967295 r ≡ true
+    → most_rows < length (spans (start_in parts) ps)
+even_many parts k ps r e h l =
+    subst (λ (p : Parts). most_rows < length (spans (start_in p) ps)) (sym e)
+    (omega (arith, h, ltb-true 4294967295 r l, even_long k ps))
 
 from_on-append : (j k a : ℕ) → from_on (j + k) a ≡ from_on j a ++ from_on k (a + j)
 from_on-append zero k a =

@@ -16,3 +16,4 @@ pub mod MadeLeaves
 pub mod Compared
 pub mod Agreement
 pub mod WorkedAgreement
+pub mod Canonical

@@ -14,7 +14,7 @@ ghost use Rattle.vortex_array.specs.inner.PickedPlaces.{any_pieces, places_in, s
 use crate::error::ArrayError;
 use crate::held::{Array, Content, Held};
 use crate::pick_leaves::{picked_decimals, picked_numbers, picked_texts, picked_truths};
-use crate::pick_parts::{Parts, spread_mask, spread_places, start};
+use crate::pick_parts::{Parts, are_too_many, spread_mask, spread_places, start};
 use crate::pick_rows::{Picks, count};
 use std::alloc::Global;
 use std::rc::Rc;
@@ -181,6 +181,9 @@ fn picked_elements(
             Ok(cut)
         }
         Picks::Places(places) => {
+            if are_too_many(parts, places) {
+                return Err(ArrayError::TooLarge);
+            }
             let spread = spread_places(alloc, parts, n, end, places)?;
             let cut = pick(alloc, elements, &Picks::Places(&spread))?;
             Ok(cut)

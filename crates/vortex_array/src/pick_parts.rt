@@ -1,6 +1,6 @@
 //! What is in the rows that are picked: which of the elements of lists.
 
-ghost use Rattle.std.specs.Prelude.{◌≡◌, ◌≤◌, ◌<◌, ◌++◌, ◌-◌, length, replicate, MatchResult};
+ghost use Rattle.std.specs.Prelude.{◌≡◌, ◌≤◌, ◌<◌, ◌++◌, ◌-◌, length, replicate, MatchResult, true};
 ghost use Rattle.std.specs.List.{All};
 ghost use Rattle.vortex_mask.specs.Truths.{places_of};
 ghost use Rattle.vortex_node_rows.specs.RowsOf.{most_rows};
@@ -9,6 +9,7 @@ ghost use Rattle.vortex_array.specs.inner.Spans.{spans};
 ghost use Rattle.vortex_array.specs.inner.PickedPlaces.{start_in, AreParts};
 
 use crate::error::ArrayError;
+use crate::made::MOST_ROWS;
 use std::alloc::Global;
 use vortex_leaves::Offsets;
 use vortex_mask::{Mask, MaskBuilder, MaskError};
@@ -87,6 +88,17 @@ fn followed(given: Vec<u32>, from: usize, to: usize) -> Result<Vec<u32>, ArrayEr
         out.push(place as u32)?;
     }
     Ok(out)
+}
+
+/// Whether lists of one size have more elements at these places than an array may have. What is
+/// between offsets is counted where the offsets are joined.
+pub(crate) fn are_too_many(parts: &Parts, places: &[u32]) -> bool
+    ensures { result ≡ true → most_rows < length (spans (start_in parts.now) places.now) }
+{
+    match parts {
+        Parts::Between(_) => false,
+        Parts::Even(size) => places.len().saturating_mul(*size) > MOST_ROWS,
+    }
 }
 
 /// The places of the elements of the lists at places, of n lists whose elements end there.

@@ -12,6 +12,8 @@ mod nested;
 #[cfg(test)]
 mod orders;
 #[cfg(test)]
+mod picked;
+#[cfg(test)]
 mod tests;
 #[cfg(test)]
 mod told;

@@ -1,16 +1,19 @@
 -- What is picked of lists and of arrays: the elements at places, in order.
 --     picked                the elements at places
 --     from_on               places that follow one another
+--     is_plain_content      no constant stands in how rows are held
 --     IsPickedColumn        the rows at places, under the same type
 --     IsPickedLists         the lists at places, by their offsets and elements
 --     IsPickedContent       the same of how rows are held
-use Rattle.std.specs.Prelude.{◌≡◌, ℕ, zero, suc, List, [], ◌∷◌, Some, None, length}
+use Rattle.std.specs.Prelude.{◌≡◌, ℕ, zero, suc, List, [], ◌∷◌, Bool, true, Some, None, length}
 use Rattle.vortex_terms.specs.Term.{Term}
 use Rattle.vortex_terms.specs.FromColumns.{pieces}
 use Rattle.vortex_node_rows.specs.RowsOf.{Validity}
 use Rattle.vortex_leaves.specs.Texts.{AreOffsets}
+use Rattle.vortex_array.specs.ArrayNode.{no_array_nodes, array_nodes_before}
+use Rattle.vortex_array.specs.Canonical.{is_canonical, are_canonical}
 use Rattle.vortex_array.specs.Column.{Column}
-use Rattle.vortex_array.specs.Content.{content_rows, IsShaped}
+use Rattle.vortex_array.specs.Content.{column_nodes, content_node, content_rows, IsShaped}
 use Rattle.vortex_array.specs.declared.held.Content.{Content}
 
 -- the element at a place, before others
@@ -29,10 +32,18 @@ abbrev pub from_on : ℕ → ℕ → List ℕ
 from_on zero a = []
 from_on (suc k) a = a ∷ from_on k (suc a)
 
--- the rows at places, under the same type
+-- no constant stands in what holds the rows
+abbrev pub is_plain_content : Content → Bool
+is_plain_content c = is_canonical (content_node c 0 no_array_nodes)
+
+abbrev pub are_plain_columns : List Column → Bool
+are_plain_columns cs = are_canonical (array_nodes_before (column_nodes cs) no_array_nodes)
+
+-- the rows at places, under the same type, and without constants where there were none
 pub record IsPickedColumn (ps : List ℕ) (old new : Column) : Type 0 where
   pub dtype : new.dtype ≡ old.dtype
   pub rows : new.rows ≡ picked ps old.rows
+  pub canonical : is_canonical old.node ≡ true → is_canonical new.node ≡ true
 
 -- each column of the second list is picked of the one of the first
 abbrev pub ArePickedColumns : List ℕ → List Column → List Column → Type 0
@@ -51,8 +62,10 @@ pub record IsPickedLists (ps : List ℕ) (offsets : List ℕ) (old : Column) (ne
   pub shape : AreOffsets (length ps) (length es.rows) new
   pub same : pieces new es.rows ≡ picked ps (pieces offsets old.rows)
   pub dtype : es.dtype ≡ old.dtype
+  pub canonical : is_canonical old.node ≡ true → is_canonical es.node ≡ true
 
 -- rows at places, held under the same type
 pub record IsPickedContent (t : Term) (ps : List ℕ) (n : ℕ) (old new : Content) : Type 0 where
   pub shape : IsShaped new t (length ps)
   pub rows : content_rows new t (length ps) ≡ picked ps (content_rows old t n)
+  pub canonical : is_plain_content old ≡ true → is_plain_content new ≡ true

@@ -15,7 +15,8 @@ use Rattle.vortex_array.specs.inner.PickedPlaces.{any_pieces, places_in, start_i
 use Rattle.vortex_array.specs.inner.Spans.{spans}
 use Rattle.vortex_array.proofs.PickedContents.{nulls_picked, truths_picked, numbers_picked, decimals_picked, texts_picked, lists_picked, fixed_picked, structs_picked, structs_counted, storage_picked, constant_picked, none_picked, lighter, made_of, rows_len}
 use Rattle.vortex_array.proofs.PickedParts.{lists_joined, lists_range, offset_starts}
-use Rattle.vortex_array.proofs.PickedRows.{err_is, many_much, picks_below, places_refused, range_cut, range_spans, range_within, refused_more, sizes_much, spans_within, structs_pieces}
+use Rattle.vortex_array.proofs.PickedRows.{elements_much, err_is, many_much, picks_below, places_refused, range_cut, range_spans, range_within, refused_more, sizes_much, spans_within, structs_pieces}
+use Rattle.vortex_array.proofs.PlainNodes.{picked_plain}
 use Rattle.vortex_array.proofs.pick.+pick.Goals as goal
 
 pub pick-made-requires-clause-shape : goal.pick-made-requires-clause-shape
@@ -54,6 +55,9 @@ pick-returns t c = record {
       c.in_ok-validity.validity c.in_ok-content.content c.array.invariant c.array.view_is
       (picks_below (length c.args.array.now.rows) c.args.picks.now c.requires)
       c.in_ok-dtype.ensures c.count-rows.ensures c.in_ok-validity.ensures c.in_ok-content.ensures).same;
+  canonical = picked_plain c.array.inside c.args.array.now
+      (record { content = c.in_ok-content.content; validity = c.in_ok-validity.validity }) c.count-rows.result c.made.result.node c.array.view_is c.made.ensures.node
+      c.in_ok-content.ensures.canonical;
 }
 
 pub picked_content-returns-in-Nulls : goal.picked_content-returns-in-Nulls
@@ -152,6 +156,14 @@ picked_content-returns-in_ok-same_value-in-Constant t c =
     rw c.in-Constant.is (constant_picked (term_of c.args.dtype.now) (places_in c.args.picks.now) c.args.n c.in-Constant.value
     c.in_ok-same_value-in-Constant.field-0 (picks_below c.args.n c.args.picks.now c.requires.picks)
     (rw c.in-Constant.is at c.requires.shape) (search rules))
+
+pub picked_elements-returns-then-are_too_many : goal.picked_elements-returns-then-are_too_many
+picked_elements-returns-then-are_too_many t c =
+    inr (
+      refl,
+      elements_much (start_in c.args.parts.now) c.args.n (length c.args.elements.now.rows) c.in-Places.places c.args.picks.now
+          c.in-Places.is c.requires.picks c.requires.parts.starts c.law.ensures.few (c.are_too_many.ensures c.if-are_too_many.true),
+    )
 
 pub picked_elements-pick-requires-in-Places : goal.picked_elements-pick-requires-in-Places
 picked_elements-pick-requires-in-Places t c = (
