@@ -1,10 +1,10 @@
 -- Which rows of an array are all one row.
-use Rattle.std.specs.Prelude.{not, ◌&&◌, ◌||◌, if◌then◌else◌}
-use Rattle.std.proofs.Common.{◌≡◌, ◌∙◌, ◌+◌, ◌*◌, ℕ, zero, suc, List, [], ◌∷◌, Bool, true, false, IsTrue, Some, None, map, length, replicate, take, drop, refl, sym, ap, subst, arith, true≢false}
+use Rattle.std.specs.Prelude.{not, ◌||◌, if◌then◌else◌}
+use Rattle.std.proofs.Common.{◌≡◌, ◌∙◌, ◌+◌, ◌*◌, ℕ, zero, suc, List, [], ◌∷◌, Bool, true, false, Some, None, map, length, replicate, take, drop, refl, sym, ap, subst, arith, true≢false}
 use Rattle.std.proofs.lemmas.List.{length-replicate}
 use Rattle.std.specs.List.{list_all}
 use Rattle.vortex_terms.specs.FromColumns.{masked, zip_map, inside_structs, struct_rows}
-use Rattle.vortex_terms.specs.Row.{Row, null_row, truth_row, list_row, Rows, no_rows, row, rows_from, copies}
+use Rattle.vortex_terms.specs.Row.{Row, null_row, truth_row, list_row, no_rows, row, rows_from, copies}
 use Rattle.vortex_terms.specs.Term.{Term}
 use Rattle.vortex_types.specs.DTypes.{term_of}
 use Rattle.vortex_scalar_value.specs.Value.{ValueTerm}
@@ -14,10 +14,9 @@ use Rattle.vortex_node_rows.specs.RowsOf.{Validity}
 use Rattle.vortex_array.specs.Column.{Column}
 use Rattle.vortex_array.specs.Content.{column_of, column_rows, content_rows, IsShaped}
 use Rattle.vortex_array.specs.declared.held.Content.{Content}
-use Rattle.vortex_array.specs.declared.held.Content.TheVariants.{Nulls, Truths, Structs, Storage, Constant}
+use Rattle.vortex_array.specs.declared.held.Content.TheVariants.{Nulls, Truths, Constant}
 use Rattle.vortex_array.specs.declared.held.Array.TheInside.{Inside}
 use Rattle.vortex_array.specs.inner.AlikeRows.{are_even, is_even, AllAlike, AreAlike}
-use Rattle.vortex_array.proofs.HeldParts.{fields_in}
 use Rattle.vortex_array.proofs.HeldValues.{fixed_in, fixed_are}
 
 -- ---- lists of one element

@@ -1,12 +1,11 @@
 -- How the row of an array at a place compares with a value, by how the array is held.
 use Rattle.std.specs.Prelude.{slice_get, slice_range}
-use Rattle.std.proofs.Common.{Bor, ◌≡◌, ◌≤◌, ◌<◌, ◌+◌, ◌-◌, ◌*◌, ◌∙◌, get_or, ℕ, zero, suc, ℤ, List, [], ◌∷◌, Bool, true, false, Option, Some, None, map, length, replicate, take, drop, refl, sym, ap, subst, arith}
+use Rattle.std.proofs.Common.{Bor, ◌≡◌, ◌<◌, ◌+◌, ◌*◌, ◌∙◌, get_or, ℕ, zero, suc, ℤ, List, [], ◌∷◌, Bool, true, false, Option, Some, None, map, length, replicate, refl, sym, ap, subst, arith}
 use Rattle.std.specs.List.{AllByRecursion}
-use Rattle.std.specs.Option.{option_map, is_some, IsSome, unwrap_or}
-use Rattle.std.specs.Ordering.{nat_cmp, ordering_then}
+use Rattle.std.specs.Option.{option_map, IsSome, unwrap_or}
 use Rattle.std.specs.declared.cmp.Ordering.{Ordering}
-use Rattle.std.specs.declared.cmp.Ordering.TheVariants.{Less, Equal, Greater}
-use Rattle.std.proofs.lemmas.List.{length-map, length-drop}
+use Rattle.std.specs.declared.cmp.Ordering.TheVariants.{Greater}
+use Rattle.std.proofs.lemmas.List.{length-map}
 use Rattle.std.proofs.lemmas.Option.{slice_get-map, slice_get-get_or, get_or_from_slice_get}
 use Rattle.vortex_terms.specs.FromColumns.{zip_map, inside_structs, struct_rows, list_rows, pieces}
 use Rattle.vortex_terms.specs.Order.{row_cmp, rows_cmp}
@@ -16,7 +15,7 @@ use Rattle.vortex_types.specs.DTypes.{term_of}
 use Rattle.vortex_scalar_value.specs.Value.{ValueTerm, values_from}
 use Rattle.vortex_value_rows.specs.HeldRow.{held_row, rows_inside, rows_under}
 use Rattle.vortex_value_rows.specs.Inside.{InTerm, every, each, in_of, in_rows}
-use Rattle.vortex_value_rows.specs.RowOf.{row_of, row_under, row_before, rows_by, field_rows}
+use Rattle.vortex_value_rows.specs.RowOf.{row_of, row_under, row_before, field_rows}
 use Rattle.vortex_value_rows.specs.declared.row_refs.RowRef.{RowRef}
 use Rattle.vortex_value_rows.specs.declared.row_refs.RowRef.TheVariants as refs
 use Rattle.vortex_value_rows.proofs.Walks.{list_is, inside_some, inside_is}

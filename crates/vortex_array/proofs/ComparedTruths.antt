@@ -1,6 +1,6 @@
 -- What comparing the rows of an array with a scalar answers, by the masks of truth values that it is made of.
 use Rattle.std.specs.Prelude.{not, ◌&&◌, ◌||◌, slice_get, if◌then◌else◌}
-use Rattle.std.proofs.Common.{◌≡◌, ◌∙◌, ◌<◌, ◌+◌, ◌++◌, ℕ, zero, suc, List, [], ◌∷◌, Bool, true, false, IsTrue, Option, Some, None, map, length, replicate, take, refl, sym, ap, subst, arith, true≢false}
+use Rattle.std.proofs.Common.{◌≡◌, ◌∙◌, ◌<◌, ◌+◌, ◌++◌, ℕ, zero, suc, List, [], ◌∷◌, Bool, true, false, IsTrue, Option, Some, map, length, replicate, take, refl, sym, ap, subst, arith, true≢false}
 use Rattle.std.proofs.lemmas.List.{length-map}
 use Rattle.std.specs.List.{list_all, list_any, AllByRecursion}
 use Rattle.std.specs.Option.{is_some, IsSome, unwrap_or}
@@ -21,7 +21,7 @@ use Rattle.vortex_value_rows.specs.RowOf.{row_of, row_under}
 use Rattle.vortex_value_rows.specs.RowLaws.{row_of-same}
 use Rattle.vortex_node_rows.specs.RowsOf.{truth_of}
 use Rattle.vortex_array.specs.ValidRows.{valid_rows}
-use Rattle.vortex_array.specs.Compared.{compared_row, compared_rows, has_true}
+use Rattle.vortex_array.specs.Compared.{compared_rows, has_true}
 use Rattle.vortex_array.specs.inner.ComparedRows.{row_in, known_row, known_rows, row_truth, row_truths}
 use Rattle.vortex_array.specs.inner.AlikeRows.{AreAlike}
 

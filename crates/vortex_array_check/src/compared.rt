@@ -104,7 +104,10 @@ fn made(array: Result<PrimitiveArray, ArrayError>, alloc: Global) -> Option<Arra
 /// 1, null and 3.
 fn numbers(alloc: Global) -> Option<Array> {
     let valid = mask(alloc, &[true, false, true]);
-    made(PrimitiveArray::try_new(alloc, &[1_i32, 2, 3], MAY, valid), alloc)
+    made(
+        PrimitiveArray::try_new(alloc, &[1_i32, 2, 3], MAY, valid),
+        alloc,
+    )
 }
 
 /// The numbers compared with another.

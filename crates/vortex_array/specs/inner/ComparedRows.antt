@@ -7,7 +7,7 @@
 --     rows_at              the rows of columns at a place
 --     rows_beside          the rows that values are, each under the type of a column
 --     HaveRows             each of them is one
-use Rattle.std.specs.Prelude.{◌≡◌, ◌&&◌, ◌||◌, ℕ, not, Bool, List, [], ◌∷◌, map, slice_index_or}
+use Rattle.std.specs.Prelude.{◌&&◌, ◌||◌, ℕ, not, Bool, List, [], ◌∷◌, map, slice_index_or}
 use Rattle.std.specs.Option.{IsSome}
 use Rattle.std.specs.declared.cmp.Ordering.{Ordering}
 use Rattle.std.specs.Ordering.{nat_cmp, int_cmp, bool_cmp}

@@ -1,4 +1,4 @@
-use Rattle.std.proofs.Common.{◌∙◌, length, map, refl, sym}
+use Rattle.std.proofs.Common.{◌∙◌, map, refl, sym}
 use Rattle.std.proofs.lemmas.List.{length-map}
 use Rattle.vortex_names.specs.Nullable.{is_nullable}
 use Rattle.vortex_terms.specs.Term.{boolean}

@@ -1,10 +1,10 @@
-use Rattle.std.proofs.Common.{rules, ◌≡◌, ◌<◌, ◌≤◌, ◌+◌, ◌-◌, ◌*◌, ◌∙◌, ℤ, List, [], ◌∷◌, true, false, Some, length, refl, sym, ap, subst, arith}
+use Rattle.std.proofs.Common.{rules, ◌+◌, ◌*◌, ◌∙◌, ℤ, Some, sym, ap, subst, arith}
 use Rattle.std.specs.Prelude.{slice_range}
 use Rattle.std.proofs.lemmas.Int.{to_z-of_z}
 use Rattle.std.specs.Int.{w128}
 use Rattle.std.specs.Option.{IsSome}
 use mir.Val.{SFits}
-use Rattle.vortex_terms.specs.Row.{null_row, truth_row, whole_row, bytes_row, list_row, rows_from}
+use Rattle.vortex_terms.specs.Row.{null_row, truth_row, whole_row, bytes_row, rows_from}
 use Rattle.vortex_terms.specs.Order.{row_cmp}
 use Rattle.vortex_terms.specs.Term.{Term}
 use Rattle.vortex_types.specs.DTypes.{term_of}
@@ -12,11 +12,10 @@ use Rattle.vortex_types.specs.TypeRefs.{ref_term}
 use Rattle.vortex_value_rows.specs.Inside.{every}
 use Rattle.vortex_value_rows.specs.RowOf.{row_under}
 use Rattle.vortex_array.specs.Column.{Column}
-use Rattle.vortex_array.specs.inner.ComparedRows.{rows_at}
 use Rattle.vortex_array.proofs.HeldParts.{fields_in, storage_in}
-use Rattle.vortex_array.proofs.HeldValues.{lists_in, fixed_in, list_within, fixed_within, fields_above, place_below, list_lighter, fixed_list_lighter, struct_lighter, field_lighter}
+use Rattle.vortex_array.proofs.HeldValues.{lists_in, fixed_in, list_within, fixed_within, fields_above, place_below, list_lighter, fixed_list_lighter, struct_lighter}
 use Rattle.vortex_array.proofs.ComparedPlaces.{own_held, shown, storage_lighter, hidden_order, shown_leaf, shown_order, shown_lists, lists_greater, fixed_greater, structs_greater, shown_structs, storage_order, storage_below, storage_value, nulls_at, truths_at, numbers_at, decimals_at, texts_at, constant_at, lists_at, fixed_at, structs_at, lists_inside, fixed_inside, structs_inside}
-use Rattle.vortex_array.proofs.ComparedLists.{AreRows, front, first_row, rest_rows, goes_on, decides, fewer_rows, fewer_values, as_many, fields_go_on, field_decides, both_end}
+use Rattle.vortex_array.proofs.ComparedLists.{AreRows, front, first_row, rest_rows, goes_on, decides, fewer_rows, fewer_values}
 use Rattle.vortex_array.proofs.held.Array.+ordered.Goals as goal
 
 pub row_order-returns-then-not-is_unmasked : goal.row_order-returns-then-not-is_unmasked
@@ -99,7 +98,7 @@ pub row_order-returns-in_default : goal.row_order-returns-in_default
 row_order-returns-in_default t c =
     lists_greater c.self.inside c.args.self.now c.args.i (c.in-Lists.offsets, c.in-Lists.elements.value) c.row_ref-other.result c.args.value.now
     (shown c.self.inside c.args.self.now c.args.i c.self.invariant c.self.view_is c.requires.place c.if-not-is_unmasked.ensures)
-    (ap lists_in c.in-Lists.is) 
+    (ap lists_in c.in-Lists.is)
     (own_held c.self.inside c.args.self.now (ref_term c.type_ref.result) c.row_ref-other.result c.args.value.now c.self.view_is c.type_ref.ensures
     c.row_ref-other.ensures c.requires.row)
     c.in_default.not-List
@@ -108,7 +107,7 @@ pub row_order-returns-in_default-other : goal.row_order-returns-in_default-other
 row_order-returns-in_default-other t c =
     fixed_greater c.self.inside c.args.self.now c.args.i (c.in-FixedLists.size, c.in-FixedLists.elements.value) c.row_ref-other.result c.args.value.now
     (shown c.self.inside c.args.self.now c.args.i c.self.invariant c.self.view_is c.requires.place c.if-not-is_unmasked.ensures)
-    (ap fixed_in c.in-FixedLists.is) 
+    (ap fixed_in c.in-FixedLists.is)
     (own_held c.self.inside c.args.self.now (ref_term c.type_ref.result) c.row_ref-other.result c.args.value.now c.self.view_is c.type_ref.ensures
     c.row_ref-other.ensures c.requires.row)
     c.in_default-other.not-List
@@ -146,9 +145,14 @@ pub row_order-fields_order-requires : goal.row_order-fields_order-requires
 row_order-fields_order-requires t c =
     let inside = (structs_inside c.self.inside c.args.self.now c.deref-in-List-other-2.result.now c.row_ref-other.result c.in-List-other-2.values c.args.value.now c.self.invariant c.self.view_is (ap fields_in c.in-Structs.is ∙ ap Some (sym c.deref-in-List-other-2.ensures.value))
     (own_held c.self.inside c.args.self.now (ref_term c.type_ref.result) c.row_ref-other.result c.args.value.now c.self.view_is c.type_ref.ensures
-    c.row_ref-other.ensures c.requires.row) c.in-List-other-2.is) in
-    (omega (arith, c.decreases, struct_lighter c.self.inside c.args.self.now c.deref-in-List-other-2.result.now c.self.view_is (ap fields_in c.in-Structs.is ∙ ap Some (sym c.deref-in-List-other-2.ensures.value))), ((fields_above (term_of c.self.inside.dtype) c.self.inside.len c.args.i c.self.inside.held.content c.deref-in-List-other-2.result.now (ap fields_in c.in-Structs.is ∙ ap Some (sym c.deref-in-List-other-2.ensures.value)) c.self.invariant.shape
-    (place_below c.self.inside c.args.self.now c.args.i c.self.invariant c.self.view_is c.requires.place)), inside.rows))
+    c.row_ref-other.ensures c.requires.row) c.in-List-other-2.is) in (
+      omega (arith, c.decreases, struct_lighter c.self.inside c.args.self.now c.deref-in-List-other-2.result.now c.self.view_is (ap fields_in c.in-Structs.is ∙ ap Some (sym c.deref-in-List-other-2.ensures.value))),
+      (
+        (fields_above (term_of c.self.inside.dtype) c.self.inside.len c.args.i c.self.inside.held.content c.deref-in-List-other-2.result.now (ap fields_in c.in-Structs.is ∙ ap Some (sym c.deref-in-List-other-2.ensures.value)) c.self.invariant.shape
+            (place_below c.self.inside c.args.self.now c.args.i c.self.invariant c.self.view_is c.requires.place)),
+        inside.rows,
+      ),
+    )
 
 pub row_order-returns-in-List-other-2 : goal.row_order-returns-in-List-other-2
 row_order-returns-in-List-other-2 t c =
@@ -163,10 +167,13 @@ row_order-returns-in-List-other-2 t c =
 
 pub row_order-row_order-requires : goal.row_order-row_order-requires
 row_order-row_order-requires t c =
-    let is = (ap storage_in c.in-Storage.is ∙ ap Some (sym c.deref-in-Storage.ensures)) in
-    (omega (arith, c.decreases, storage_lighter c.self.inside c.args.self.now c.deref-in-Storage.result.now c.self.view_is is),
-    (storage_below c.self.inside c.args.self.now c.deref-in-Storage.result.now c.args.i c.self.view_is is c.requires.place,
-    subst IsSome (storage_value c.self.inside c.args.self.now c.deref-in-Storage.result.now c.args.value.now c.self.invariant c.self.view_is is) c.requires.row))
+    let is = (ap storage_in c.in-Storage.is ∙ ap Some (sym c.deref-in-Storage.ensures)) in (
+      omega (arith, c.decreases, storage_lighter c.self.inside c.args.self.now c.deref-in-Storage.result.now c.self.view_is is),
+      (
+        storage_below c.self.inside c.args.self.now c.deref-in-Storage.result.now c.args.i c.self.view_is is c.requires.place,
+        subst IsSome (storage_value c.self.inside c.args.self.now c.deref-in-Storage.result.now c.args.value.now c.self.invariant c.self.view_is is) c.requires.row,
+      ),
+    )
 
 pub row_order-returns-in-Storage : goal.row_order-returns-in-Storage
 row_order-returns-in-Storage t c =
@@ -188,10 +195,14 @@ rows_order-returns-then-i-to t c =
     (omega (arith, c.if-i-to.true)) c.loop-rest.invariant.rows c.loop-rest.invariant.same
 
 pub rows_order-row_order-requires : goal.rows_order-row_order-requires
-rows_order-row_order-requires t c =
-    (omega (arith, c.decreases), (omega (arith, c.if-i-to.false, c.requires.within),
+rows_order-row_order-requires t c = (
+  omega (arith, c.decreases),
+  (
+    omega (arith, c.if-i-to.false, c.requires.within),
     first_row c.args.self.now.dtype c.value-item.result _ (subst (AreRows c.args.self.now.dtype)
-    (front c.loop-rest.rest.now c.value-item.result c.in-len1-up.len_at_least c.value-item.is) c.loop-rest.invariant.rows)))
+        (front c.loop-rest.rest.now c.value-item.result c.in-len1-up.len_at_least c.value-item.is) c.loop-rest.invariant.rows),
+  ),
+)
 
 pub rows_order-returns-in_default-row_order : goal.rows_order-returns-in_default-row_order
 rows_order-returns-in_default-row_order t c =

@@ -1,9 +1,9 @@
-use Rattle.std.proofs.Common.{◌≡◌, ◌∙◌, List, Some, refl, sym, ap, subst, arith}
+use Rattle.std.proofs.Common.{◌∙◌, Some, refl, sym, ap, subst, arith}
 use Rattle.vortex_types.specs.DTypes.{term_of}
 use Rattle.vortex_array.specs.Column.{Column}
-use Rattle.vortex_array.specs.inner.AlikeRows.{AllAlike, AreAlike}
+use Rattle.vortex_array.specs.inner.AlikeRows.{AreAlike}
 use Rattle.vortex_array.proofs.HeldParts.{fields_in}
-use Rattle.vortex_array.proofs.HeldValues.{fixed_in, fixed_list_lighter, struct_lighter}
+use Rattle.vortex_array.proofs.HeldValues.{fixed_in, struct_lighter}
 use Rattle.vortex_array.proofs.ComparedPlaces.{fields_rows}
 use Rattle.vortex_array.proofs.AlikeRows.{held_alike, nulls_alike, constant_alike, truths_alike, fixed_alike, structs_alike}
 use Rattle.vortex_array.proofs.held.Array.+uniform.Goals as goal
@@ -43,6 +43,12 @@ is_uniform-returns-in-Structs t c =
     (structs_alike c.self.inside.len c.deref-in-Structs.result.now (c.are_uniform.ensures h)))
 
 pub is_uniform-are_uniform-requires : goal.is_uniform-are_uniform-requires
-is_uniform-are_uniform-requires t c =
-    (omega (arith, c.decreases, struct_lighter c.self.inside c.args.self.now c.deref-in-Structs.result.now c.self.view_is
-    (ap fields_in c.in-Structs.is ∙ ap Some (sym c.deref-in-Structs.ensures.value))), tt)
+is_uniform-are_uniform-requires t c = (
+  omega (
+    arith,
+    c.decreases,
+    struct_lighter c.self.inside c.args.self.now c.deref-in-Structs.result.now c.self.view_is
+        (ap fields_in c.in-Structs.is ∙ ap Some (sym c.deref-in-Structs.ensures.value)),
+  ),
+  tt,
+)

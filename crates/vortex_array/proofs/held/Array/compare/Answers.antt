@@ -20,10 +20,10 @@ pub returns-clause-rows : goal.returns-clause-rows
 returns-clause-rows g c =
     record {
       dtype = c.held_truths.ensures.dtype ∙ ap boolean (either_is (nullable c.args.self.now.dtype) (nullable c.args.scalar.now.dtype) c.nullability.result c.nullability-2.result c.bitor-nullability.result
-    (c.nullability.ensures ∙ ap (λ (x : Column). nullability_of (nullable x.dtype)) c.self.view_is)
-    (c.nullability-2.ensures ∙ ap (λ (x : Term). nullability_of (nullable x)) c.dtype-2.ensures) c.bitor-nullability.ensures);
+          (c.nullability.ensures ∙ ap (λ (x : Column). nullability_of (nullable x.dtype)) c.self.view_is)
+          (c.nullability-2.ensures ∙ ap (λ (x : Term). nullability_of (nullable x)) c.dtype-2.ensures) c.bitor-nullability.ensures);
       rows = (compared_is c.args.operator c.args.scalar.now.row c.args.self.now.rows c.held_truths.result.rows c.in_ok-known.known c.in_ok-truths.truths
-    c.in_ok-known.ensures.known c.in_ok-truths.ensures.truths c.held_truths.ensures.rows);
+          c.in_ok-known.ensures.known c.in_ok-truths.ensures.truths c.held_truths.ensures.rows);
     }
 
 pub returns-clause-least : goal.returns-clause-least

@@ -1,5 +1,5 @@
 use Rattle.std.specs.Prelude.{IfOk}
-use Rattle.std.proofs.Common.{◌≡◌, ◌∙◌, List, Bool, true, false, length, refl, sym, ap, subst, arith}
+use Rattle.std.proofs.Common.{◌≡◌, ◌∙◌, List, Bool, true, false, length, sym, ap, subst, arith}
 use Rattle.vortex_terms.specs.Row.{Row, is_null}
 use Rattle.vortex_array.specs.Column.{Column}
 use Rattle.vortex_array.specs.inner.ComparedRows.{row_in, row_truth, row_truths}
