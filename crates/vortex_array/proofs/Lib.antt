@@ -27,3 +27,4 @@ pub mod AlikeRows
 pub mod ComparedPlaces
 pub mod ComparedLists
 pub mod Agreements
+pub mod ComparedNumbers
