@@ -28,3 +28,4 @@ pub mod ComparedPlaces
 pub mod ComparedLists
 pub mod Agreements
 pub mod PlainNodes
+pub mod ComparedNumbers

@@ -1,7 +1,7 @@
 -- What is picked of rows, by which rows are picked.
-use Rattle.std.proofs.Common.{◌≡◌, ◌≤◌, ◌<◌, ◌+◌, ◌-◌, ◌*◌, ◌^◌, ◌⊎◌, inl, inr, ℕ, zero, suc, List, [], ◌∷◌, ◌++◌, Bool, true, false, Some, take, map, length, get_or, refl, sym, ap, subst, ◌∙◌, arith, length-append, Bor, Vec, Global}
+use Rattle.std.proofs.Common.{◌≡◌, ◌≤◌, ◌<◌, ◌+◌, ◌-◌, ◌*◌, ◌^◌, inl, inr, ℕ, zero, suc, List, [], ◌∷◌, ◌++◌, Bool, true, false, Some, take, map, length, get_or, refl, sym, ap, subst, ◌∙◌, arith, length-append, Bor, Vec, Global}
 use Rattle.std.specs.Prelude.{slice_get, slice_range, nat_lt, ◌||◌, Result, Ok, Err, IsErrAnd, MatchResult}
-use Rattle.std.specs.List.{All, AllByRecursion, flat_map, sum}
+use Rattle.std.specs.List.{All, flat_map, sum}
 use Rattle.std.proofs.lemmas.Bool.{ltb-true}
 use Rattle.std.proofs.lemmas.List.Elements.{All-from_get_or}
 use Rattle.std.proofs.lemmas.List.Sums.{sum_by-cons}

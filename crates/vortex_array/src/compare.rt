@@ -14,6 +14,7 @@ ghost use Rattle.vortex_array.specs.Compared.{has_true, refusal_of, IsCompared};
 ghost use Rattle.vortex_array.specs.inner.Masks.{IsTaken};
 ghost use Rattle.vortex_array.specs.inner.ComparedRows.{known_rows, row_in, row_truth, row_truths};
 
+use crate::compare_numbers::number_truths;
 use crate::error::ArrayError;
 use crate::held::{Array, Content, Held};
 use std::alloc::Global;
@@ -25,6 +26,7 @@ use vortex_scalar_value::ScalarValue;
 use vortex_steps::Steps;
 use vortex_types::DType;
 use vortex_value::Operator;
+use vortex_value_rows::{RowRef, row_ref};
 
 /// The mask that is kept of one that is true everywhere under a type that is not nullable.
 fn kept_mask(len: usize, nullability: Nullability, known: Mask) -> Option<Mask>
@@ -79,7 +81,7 @@ impl Array {
     }
 
     /// The same of each row.
-    fn row_truths<L: Ledger>(
+    fn single_truths<L: Ledger>(
         &self,
         alloc: Global,
         value: &ScalarValue,
@@ -107,6 +109,33 @@ impl Array {
             Ok(truths) => Ok(truths),
             Err(_) => Err(ArrayError::OutOfMemory),
         }
+    }
+
+    /// The same of each row, where numbers are compared with a number by a loop of their own.
+    fn row_truths<L: Ledger>(
+        &self,
+        alloc: Global,
+        value: &ScalarValue,
+        operator: Operator,
+        steps: &mut Steps<L>,
+    ) -> Result<Mask, ArrayError>
+        requires row { IsSome (row_of self.now.dtype value.now) }
+        requires known { is_null (row_under self.now.dtype value.now) ≡ false }
+        ensures truths { IfOk result (λ m. m
+            ≡ row_truths operator (row_under self.now.dtype value.now) self.now.rows) }
+        ensures memory { IsOkUnless result ArrayError.OutOfMemory }
+        ensures rise { steps.old ≤ steps.new }
+        ensures most { steps.new ≤ steps.old + length self.now.rows }
+        ensures least { IfOk result (λ m. IsTrue (list_any (λ b. b) m) → steps.old < steps.new) }
+    {
+        let other = row_ref(self.dtype.type_ref(), value);
+        if let Content::Numbers(numbers) = &self.held.content {
+            if let RowRef::Whole(number) = other {
+                let validity = &self.held.validity;
+                return number_truths(alloc, numbers, validity, number, operator, steps);
+            }
+        }
+        self.single_truths(alloc, value, operator, steps)
     }
 
     /// For each row whether neither it nor the scalar is null.

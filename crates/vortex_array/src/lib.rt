@@ -5,6 +5,7 @@ mod access;
 mod agreement;
 mod array;
 mod compare;
+mod compare_numbers;
 mod compare_rows;
 mod compare_values;
 mod context;

@@ -1,4 +1,4 @@
-use Rattle.std.proofs.Common.{◌≡◌, ◌≤◌, ◌*◌, length, arith}
+use Rattle.std.proofs.Common.{◌≤◌, ◌*◌, length, arith}
 use Rattle.vortex_array.proofs.PickedRows.{even_many}
 use Rattle.vortex_array.proofs.pick_parts.are_too_many.Goals as goal
 

@@ -2,7 +2,7 @@ use Rattle.std.proofs.Common.{◌≡◌, ◌≤◌, ◌<◌, ◌+◌, IsTrue, ta
 use Rattle.std.specs.List.{list_any}
 use Rattle.vortex_value_rows.specs.RowOf.{row_under}
 use Rattle.vortex_array.specs.inner.ComparedRows.{row_truths}
-use Rattle.vortex_array.proofs.held.Array.row_truths.Given as goal
+use Rattle.vortex_array.proofs.held.Array.single_truths.Given as goal
 
 abbrev pub invariant-loop-i : goal.invariant-loop-i
 invariant-loop-i g l = record {
