@@ -1,10 +1,6 @@
 -- How the row of an array at a place compares with a value, by how the array is held.
 use Rattle.std.specs.Prelude.{slice_get, slice_range}
-<<<<<<< HEAD
 use Rattle.std.proofs.Common.{Bor, ◌≡◌, ◌<◌, ◌+◌, ◌-◌, ◌*◌, ◌∙◌, get_or, ℕ, zero, suc, ℤ, List, [], ◌∷◌, Bool, true, false, Option, Some, None, map, length, replicate, refl, sym, ap, subst, arith}
-=======
-use Rattle.std.proofs.Common.{Bor, ◌≡◌, ◌<◌, ◌+◌, ◌*◌, ◌∙◌, get_or, ℕ, zero, suc, ℤ, List, [], ◌∷◌, Bool, true, false, Option, Some, None, map, length, replicate, refl, sym, ap, subst, arith}
->>>>>>> ecda0f378ebdb45a252fa255f95be9da5868346a
 use Rattle.std.specs.List.{AllByRecursion}
 use Rattle.std.specs.Option.{option_map, IsSome, unwrap_or}
 use Rattle.std.specs.declared.cmp.Ordering.{Ordering}

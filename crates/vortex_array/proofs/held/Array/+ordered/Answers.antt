@@ -1,8 +1,4 @@
-<<<<<<< HEAD
 use Rattle.std.proofs.Common.{rules, ◌+◌, ◌-◌, ◌*◌, ◌∙◌, ℤ, true, false, Some, sym, ap, subst, arith}
-=======
-use Rattle.std.proofs.Common.{rules, ◌+◌, ◌*◌, ◌∙◌, ℤ, Some, sym, ap, subst, arith}
->>>>>>> ecda0f378ebdb45a252fa255f95be9da5868346a
 use Rattle.std.specs.Prelude.{slice_range}
 use Rattle.std.proofs.lemmas.Int.{to_z-of_z}
 use Rattle.std.specs.Int.{w128}
