@@ -77,6 +77,8 @@ impl TimeUnit {
 impl fmt::Display for TimeUnit {
     ghost output = { λ unit. Some (unit_text unit) };
 
+    ghost styled_output = { λ unit _. Some (unit_text unit) };
+
     fn fmt<W: fmt::Write>(&self, f: &mut fmt::Formatter<W>) -> fmt::Result {
         match self {
             TimeUnit::Nanoseconds => f.write_str("ns"),
