@@ -75,6 +75,14 @@ fn refusals_come_in_order(rt: HostRuntime) {
     assert_eq!(rt; refusal(rt.alloc(), TIMESTAMP_ID, Some(&[2, 3, 0, 85])), 3);
     assert_eq!(rt; refusal(rt.alloc(), TIMESTAMP_ID, Some(&[2, 2, 0, 255])), 3);
     assert_eq!(rt; refusal(rt.alloc(), TIMESTAMP_ID, Some(&[2, 1, 0, 255])), 5);
+    assert_eq!(rt; refusal(rt.alloc(), TIMESTAMP_ID, Some(&[5, 1, 0, 255])), 4);
+    assert_eq!(rt; refusal(rt.alloc(), TIME_ID, Some(&[5])), 4);
+}
+
+#[test]
+fn errors_have_numbers(rt: HostRuntime) {
+    assert_eq!(rt; TemporalError::BadJson.number(), 10);
+    assert_eq!(rt; TemporalError::OutOfMemory.number(), 11);
 }
 
 #[test]
@@ -146,28 +154,49 @@ fn units_have_tags_and_texts(rt: HostRuntime) {
     assert_eq!(rt; TimeUnit::Milliseconds.tag(), 2);
 }
 
-/// The seconds, the days and the nanoseconds of a span of so many units.
-fn parts(unit: TimeUnit, v: i64) -> Option<[i64; 3]> {
+/// The seconds, the days, the nanoseconds, the microseconds and the milliseconds of a span of so
+/// many units.
+fn parts(unit: TimeUnit, v: i64) -> Option<[i64; 5]> {
     let span: Span = unit.to_jiff_span(v).ok()?;
     Some([
         span.get_seconds(),
         span.get_days() as i64,
         span.get_nanoseconds(),
+        span.get_microseconds(),
+        span.get_milliseconds(),
     ])
 }
 
 #[test]
 fn spans_have_limits(rt: HostRuntime) {
-    assert_eq!(rt; parts(TimeUnit::Days, 5_000_000), Some([0, 5_000_000, 0]));
+    assert_eq!(rt;
+        parts(TimeUnit::Days, 5_000_000),
+        Some([0, 5_000_000, 0, 0, 0])
+    );
     assert_eq!(rt; parts(TimeUnit::Days, 5_000_001), None);
-    assert_eq!(rt; parts(TimeUnit::Days, -5_000_000), Some([0, -5_000_000, 0]));
+    assert_eq!(rt;
+        parts(TimeUnit::Days, -5_000_000),
+        Some([0, -5_000_000, 0, 0, 0])
+    );
     assert_eq!(rt; parts(TimeUnit::Days, -5_000_001), None);
     assert_eq!(rt;
         parts(TimeUnit::Seconds, 400_000_000_000),
-        Some([400_000_000_000, 0, 0])
+        Some([400_000_000_000, 0, 0, 0, 0])
     );
     assert_eq!(rt; parts(TimeUnit::Seconds, 400_000_000_001), None);
     assert_eq!(rt; parts(TimeUnit::Milliseconds, -400_000_000_000_001), None);
+    assert_eq!(rt;
+        parts(TimeUnit::Milliseconds, -400_000_000_000_000),
+        Some([0, 0, 0, 0, -400_000_000_000_000])
+    );
+    assert_eq!(rt;
+        parts(TimeUnit::Microseconds, 400_000_000_000_000_000),
+        Some([0, 0, 0, 400_000_000_000_000_000, 0])
+    );
+    assert_eq!(rt;
+        parts(TimeUnit::Nanoseconds, 9_000_000_000_000_000_000),
+        Some([0, 0, 9_000_000_000_000_000_000, 0, 0])
+    );
     assert_eq!(rt;
         parts(TimeUnit::Microseconds, 400_000_000_000_000_001),
         None
@@ -177,5 +206,5 @@ fn spans_have_limits(rt: HostRuntime) {
         None
     );
     assert_eq!(rt; parts(TimeUnit::Nanoseconds, i64::MIN), None);
-    assert_eq!(rt; parts(TimeUnit::Nanoseconds, -7), Some([0, 0, -7]));
+    assert_eq!(rt; parts(TimeUnit::Nanoseconds, -7), Some([0, 0, -7, 0, 0]));
 }

@@ -57,6 +57,8 @@ fn dates_end_with_the_years(rt: HostRuntime) {
     assert_eq!(rt; refusal(DATE_ID, Some(&[2]), 253_402_300_800_000), 9);
     assert_eq!(rt; refusal(DATE_ID, Some(&[3]), 0), 7);
     assert_eq!(rt; refusal(DATE_ID, Some(&[0]), 0), 7);
+    assert_eq!(rt; refusal(DATE_ID, Some(&[1]), 0), 7);
+    assert_eq!(rt; refusal(DATE_ID, Some(&[3]), i64::MAX), 7);
 }
 
 #[test]
@@ -92,6 +94,15 @@ fn timestamps_in_no_zone(rt: HostRuntime) {
     );
     let last = "9999-12-31T23:59:59";
     assert!(rt; shows(rt.alloc(), TIMESTAMP_ID, &[3, 0, 0], 253_402_300_799, last));
+    assert!(rt;
+        shows(
+            rt.alloc(),
+            TIMESTAMP_ID,
+            &[1, 0, 0],
+            253_402_300_799_999_999,
+            "9999-12-31T23:59:59.999999"
+        )
+    );
     let first = "-009999-01-01T00:00:00";
     assert!(rt;
         shows(

@@ -129,7 +129,22 @@ fn instants_in_zones(rt: HostRuntime) {
         refusal(rt.alloc(), TimeUnit::Seconds, -377_705_023_202, true),
         9
     );
+    assert_eq!(rt;
+        refusal(
+            rt.alloc(),
+            TimeUnit::Microseconds,
+            253_402_207_200_999_999,
+            true
+        ),
+        0
+    );
+    assert_eq!(rt; refusal(rt.alloc(), TimeUnit::Seconds, i64::MAX, false), 8);
     assert_eq!(rt; Timestamp::MAX.as_second(), 253_402_207_200);
+    assert_eq!(rt; Timestamp::MAX.as_nanosecond(), 253_402_207_200_999_999_999);
+    assert_eq!(rt;
+        Timestamp::MIN.as_nanosecond(),
+        -377_705_023_201_000_000_000
+    );
     assert_eq!(rt; Timestamp::MIN.as_second(), -377_705_023_201);
 }
 
@@ -147,10 +162,10 @@ fn the_epoch_west_of_greenwich(rt: HostRuntime) {
     assert!(rt; epoch_shows(rt.alloc(), "EST5EDT,M3.2.0,M11.1.0", text));
 }
 
-/// Whether a date handed a zone, which it ignores, prints so.
-fn date_shows(alloc: Global, v: i64, text: &str) -> bool {
+/// Whether a number of a type that names no zone prints so. A zone is handed, which is ignored.
+fn plain_shows(alloc: Global, of: TemporalMetadata, v: i64, text: &str) -> bool {
     let utc = TimeZone::UTC;
-    match TemporalMetadata::Date(TimeUnit::Days).to_jiff(alloc, v, Some(&utc)) {
+    match of.to_jiff(alloc, v, Some(&utc)) {
         Ok(value) => match format!(in alloc; "{value}") {
             Ok(shown) => shown.as_str() == text,
             Err(_) => false,
@@ -159,8 +174,34 @@ fn date_shows(alloc: Global, v: i64, text: &str) -> bool {
     }
 }
 
+fn date_shows(alloc: Global, unit: TimeUnit, v: i64, text: &str) -> bool {
+    plain_shows(alloc, TemporalMetadata::Date(unit), v, text)
+}
+
+fn time_shows(alloc: Global, unit: TimeUnit, v: i64, text: &str) -> bool {
+    plain_shows(alloc, TemporalMetadata::Time(unit), v, text)
+}
+
+fn stamp_shows(alloc: Global, unit: TimeUnit, v: i64, text: &str) -> bool {
+    plain_shows(alloc, TemporalMetadata::Timestamp(unit, None), v, text)
+}
+
+/// The number of the refusal of a date, or 0.
+fn date_refusal(alloc: Global, unit: TimeUnit, v: i64) -> u8 {
+    match TemporalMetadata::Date(unit).to_jiff(alloc, v, None) {
+        Ok(_) => 0,
+        Err(error) => error.number(),
+    }
+}
+
 #[test]
-fn dates_ask_no_zone(rt: HostRuntime) {
-    assert!(rt; date_shows(rt.alloc(), 25, "1970-01-26"));
-    assert!(rt; date_shows(rt.alloc(), 2_932_896, "9999-12-31"));
+fn others_ask_no_zone(rt: HostRuntime) {
+    assert!(rt; date_shows(rt.alloc(), TimeUnit::Days, 25, "1970-01-26"));
+    assert!(rt; date_shows(rt.alloc(), TimeUnit::Days, 2_932_896, "9999-12-31"));
+    assert!(rt; date_shows(rt.alloc(), TimeUnit::Milliseconds, -1, "1970-01-01"));
+    assert!(rt; time_shows(rt.alloc(), TimeUnit::Seconds, 205, "00:03:25"));
+    assert!(rt; stamp_shows(rt.alloc(), TimeUnit::Seconds, 0, "1970-01-01T00:00:00"));
+    assert_eq!(rt; date_refusal(rt.alloc(), TimeUnit::Days, 2_932_897), 9);
+    assert_eq!(rt; date_refusal(rt.alloc(), TimeUnit::Days, -4_371_588), 9);
+    assert_eq!(rt; date_refusal(rt.alloc(), TimeUnit::Seconds, 0), 7);
 }
