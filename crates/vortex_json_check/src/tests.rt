@@ -7,6 +7,7 @@ use vortex_json::{
     nullability_to_json, path_from_json, path_to_json, ptype_from_json, ptype_to_json,
 };
 use vortex_names::Nullability;
+use vortex_number::PType;
 use vortex_time::TemporalError;
 use vortex_types::DType;
 
@@ -185,6 +186,8 @@ fn fields_are_written_as_read(rt: HostRuntime) {
     );
     let lost = "{\"Struct\":[{\"dtypes\":[{\"inner\":{\"Owned\":\"Null\"}}],\"names\":[]},false]}";
     assert_eq!(rt; kept(a, lost), Outcome::BadJson);
+    let nameless = "{\"Struct\":[{\"dtypes\":[],\"names\":[\"a\"]},false]}";
+    assert_eq!(rt; kept(a, nameless), Outcome::BadJson);
     let viewed =
         "{\"Struct\":[{\"dtypes\":[{\"inner\":{\"Viewed\":\"Null\"}}],\"names\":[\"a\"]},false]}";
     assert_eq!(rt; kept(a, viewed), Outcome::BadJson);
@@ -311,6 +314,14 @@ fn levels_are_bounded(rt: HostRuntime) {
 #[test]
 fn small_things_are_written_as_read(rt: HostRuntime) {
     let a = rt.alloc();
+    assert_eq!(rt;
+        compared(a, ptype_to_json(a, &PType::U8), "\"u8\""),
+        Outcome::Same
+    );
+    assert_eq!(rt;
+        compared(a, nullability_to_json(a, &Nullability::Nullable), "true"),
+        Outcome::Same
+    );
     assert_eq!(rt; kind_again(a, "\"u8\"", "\"u8\""), Outcome::Same);
     assert_eq!(rt; kind_again(a, "\"U8\"", ""), Outcome::BadJson);
     assert_eq!(rt; flag_again(a, "true", "true"), Outcome::Same);

@@ -42,3 +42,11 @@ returns-clause-absent c = refl
 pub returns-clause-path : goal.returns-clause-path
 unfolding serde_json_on_literals digits
 returns-clause-path c = refl
+
+pub returns-clause-order : goal.returns-clause-order
+unfolding serde_json_on_literals digits
+returns-clause-order c = refl
+
+pub returns-clause-kinds : goal.returns-clause-kinds
+unfolding serde_json_on_literals digits
+returns-clause-kinds c = refl
