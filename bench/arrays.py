@@ -48,6 +48,7 @@ use vortex_steps::Steps;
 use vortex_types::DType;
 use vortex_value::Operator;
 
+#[derive(Drop)]
 struct Column {
     dtype: DType,
     scalar: Scalar,
