@@ -69,7 +69,7 @@ fn number_at(input: &[u8], place: usize) -> usize {
     value
 }
 
-fn column(alloc: Global, input: &[u8]) -> Option<Column> {
+fn column_of(alloc: Global, input: &[u8]) -> Option<Column> {
     let (type_end, scalar_end) = (number_at(input, 1), number_at(input, 2));
     let (body_at, body_end) = (number_at(input, 7), number_at(input, 8));
     let dtype = DType::from_proto(alloc, part(input, 72, type_end)).ok()?;
@@ -95,38 +95,26 @@ fn decode(alloc: Global, names: &ArrayContext, column: &Column) -> Result<Array,
     ArrayParts::try_new(alloc, body)?.decode(alloc, names, &column.dtype, column.rows)
 }
 
-/// Does the job so often and gives the least time and what came out.
-fn timed<L: Ledger>(rt: &HostRuntime, blank: Blank, job: &str, repeats: u64, column: &Column) -> io::Result<(u128, Option<Array>)>
-    requires name { blank.name ≡ L.name }
-    requires parts { blank.parts ≡ L.parts }
-    requires some { 0 < blank.parts }
-{
-    let alloc = rt.alloc();
-    let mut steps = Steps::<L>::new(blank);
-    let Ok(names) = ArrayContext::from_ids(alloc, &NAMES) else {
-        return Ok((0, None));
-    };
-    let Ok(whole) = decode(alloc, &names, column) else {
-        return Ok((0, None));
-    };
-    let keep = if job == "filter" { mask(alloc, column.rows) } else { Some(Mask::new_false(column.rows)) };
-    let Some(keep) = keep else {
-        return Ok((0, None));
-    };
-    let (mut best, mut last) = (u128::MAX, None);
-    for _ in 0..repeats {
-        let start = Instant::now(rt)?;
-        let made = done(alloc, job, &names, column, &whole, &keep, &mut steps);
-        best = best.min(start.elapsed(rt)?.as_nanos());
-        last = made.ok();
-    }
-    Ok((best, last))
+/// What a job works on.
+#[derive(Drop)]
+struct Work {
+    names: ArrayContext,
+    whole: Array,
+    keep: Mask,
+}
+
+fn prepared(alloc: Global, job: &str, column: &Column) -> Option<Work> {
+    let names = ArrayContext::from_ids(alloc, &NAMES).ok()?;
+    let whole = decode(alloc, &names, column).ok()?;
+    let keep = if job == "filter" { mask(alloc, column.rows)? } else { Mask::new_false(column.rows) };
+    Some(Work { names, whole, keep })
 }
 
 /// The job, once.
-fn done<L: Ledger>(alloc: Global, job: &str, names: &ArrayContext, column: &Column, whole: &Array, keep: &Mask, steps: &mut Steps<L>) -> Result<Array, ArrayError> {
+fn done<L: Ledger>(alloc: Global, job: &str, column: &Column, work: &Work, steps: &mut Steps<L>) -> Result<Array, ArrayError> {
+    let whole = &work.whole;
     if job == "decode" {
-        return decode(alloc, names, column);
+        return decode(alloc, &work.names, column);
     }
     if job == "compare" {
         return whole.compare(alloc, &column.scalar, Operator::Gte, steps);
@@ -134,10 +122,39 @@ fn done<L: Ledger>(alloc: Global, job: &str, names: &ArrayContext, column: &Colu
     if job == "slice" {
         return whole.slice(alloc, whole.len() / 3, whole.len() / 2);
     }
-    if keep.len() == whole.len() {
-        return whole.filter(alloc, keep);
+    if work.keep.len() == whole.len() {
+        return whole.filter(alloc, &work.keep);
     }
     Err(ArrayError::LengthMismatch)
+}
+
+/// How long the job takes, once.
+fn once<L: Ledger>(rt: &HostRuntime, job: &str, column: &Column, work: &Work, steps: &mut Steps<L>) -> io::Result<u128> {
+    let start = Instant::now(rt)?;
+    let _made = done(rt.alloc(), job, column, work, steps);
+    Ok(start.elapsed(rt)?.as_nanos())
+}
+
+/// How many rows the job gives, and how many of them are not null.
+fn answer<L: Ledger>(alloc: Global, job: &str, column: &Column, work: &Work, steps: &mut Steps<L>) -> (usize, usize) {
+    match done(alloc, job, column, work, steps) {
+        Ok(array) => (array.len(), valid(alloc, &array)),
+        Err(_) => (0, 0),
+    }
+}
+
+/// Does the job so often, and gives the least time and what comes out.
+fn timed<L: Ledger>(rt: &HostRuntime, blank: Blank, job: &str, repeats: u64, column: &Column, work: &Work) -> io::Result<(u128, (usize, usize))>
+    requires name { blank.name ≡ L.name }
+    requires parts { blank.parts ≡ L.parts }
+    requires some { 0 < blank.parts }
+{
+    let mut steps = Steps::<L>::new(blank);
+    let mut best = u128::MAX;
+    for _ in 0..repeats {
+        best = best.min(once(rt, job, column, work, &mut steps)?);
+    }
+    Ok((best, answer(rt.alloc(), job, column, work, &mut steps)))
 }
 
 /// How many rows are not null.
@@ -161,18 +178,15 @@ fn main(rt: HostRuntime) -> io::Result<()> {
     let alloc = rt.alloc();
     let mut input = Vec::new(alloc);
     let _read = rt.stdin().read_to_end(&mut input)?;
-    let Some(column) = column(alloc, input.as_slice()) else {
+    let Some(column) = column_of(alloc, input.as_slice()) else {
         return println!(rt; "0 no column");
     };
     drop(input);
-    let (best, made) = timed::<Brand>(&rt, Blank::new(1), job.as_str(), repeats, &column)?;
-    match made {
-        Some(array) => {
-            let (rows, valid) = (array.len(), valid(alloc, &array));
-            println!(rt; "{best} {rows} {valid}")
-        }
-        None => println!(rt; "{best} refused"),
-    }
+    let Some(work) = prepared(alloc, job.as_str(), &column) else {
+        return println!(rt; "0 refused");
+    };
+    let (best, (rows, valid)) = timed::<Brand>(&rt, Blank::new(1), job.as_str(), repeats, &column, &work)?;
+    println!(rt; "{best} {rows} {valid}")
 }
 """
 
