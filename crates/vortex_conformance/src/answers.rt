@@ -1,7 +1,6 @@
 //! The answer to a question.
 
 use crate::arrays::rows_answer;
-use crate::jsons::json_type_answer;
 use crate::messages::messages_answer;
 use crate::operations::{bounds_answer, cast_answer, numeric_answer};
 use crate::protos::{proto_type_answer, resolve_answer};
@@ -13,7 +12,6 @@ use vortex_buffer::BufferError;
 use vortex_dtype::DTypeError;
 use vortex_ipc::IpcError;
 use vortex_scalar::ScalarError;
-use vortex_time::TemporalError;
 
 /// Why a question has no answer, or a name alone.
 pub(crate) enum Refusal {
@@ -25,8 +23,6 @@ pub(crate) enum Refusal {
     Scalar(ScalarError),
     /// A call on arrays refused.
     Array(ArrayError),
-    /// A call on JSON refused.
-    Json(TemporalError),
     /// Lack of memory.
     OutOfMemory,
 }
@@ -54,15 +50,6 @@ impl From<ArrayError> for Refusal {
         match error {
             ArrayError::OutOfMemory => Refusal::OutOfMemory,
             _ => Refusal::Array(error),
-        }
-    }
-}
-
-impl From<TemporalError> for Refusal {
-    fn from(error: TemporalError) -> Refusal {
-        match error {
-            TemporalError::OutOfMemory => Refusal::OutOfMemory,
-            _ => Refusal::Json(error),
         }
     }
 }
@@ -105,7 +92,6 @@ pub(crate) fn answer(alloc: Global, line: &str) -> Result<String, AllocError> {
         Err(Refusal::Type(error)) => format!(in alloc; "{error:?}"),
         Err(Refusal::Scalar(error)) => format!(in alloc; "{error:?}"),
         Err(Refusal::Array(error)) => format!(in alloc; "{error:?}"),
-        Err(Refusal::Json(error)) => format!(in alloc; "{error:?}"),
         Err(Refusal::OutOfMemory) => Err(AllocError),
     }
 }
@@ -122,7 +108,6 @@ fn asked(alloc: Global, line: &str) -> Result<String, Refusal> {
         (Some("type"), Some(place), Some(bytes), None, None) => type_answer(alloc, place, bytes),
         (Some("same"), Some(one), Some(other), None, None) => same_answer(alloc, one, other),
         (Some("proto-type"), Some(bytes), None, None, None) => proto_type_answer(alloc, bytes),
-        (Some("json-type"), Some(bytes), None, None, None) => json_type_answer(alloc, bytes),
         (Some("resolve"), Some(path), Some(dtype), None, None) => {
             resolve_answer(alloc, path, dtype)
         }

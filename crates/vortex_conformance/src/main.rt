@@ -4,7 +4,6 @@
 
 mod answers;
 mod arrays;
-mod jsons;
 mod messages;
 mod operations;
 mod protos;
