@@ -1,6 +1,6 @@
 //! The metadata of the types of times.
 
-ghost use Rattle.std.specs.Prelude.{◌≡◌};
+ghost use Rattle.std.specs.Prelude.{◌≡◌, IfOk, IsOkUnless};
 ghost use Rattle.std.specs.Option.{option_copied};
 ghost use Rattle.vortex_time.specs.Answers.{Answers};
 ghost use Rattle.vortex_time.specs.Metadata.{metadata_of, unit_in, zone_in, written_metadata};
@@ -65,6 +65,22 @@ impl TemporalMetadata {
             BorrowedMetadata::Timestamp(unit, Some(zone)) => {
                 let zone = String::from_str(alloc, zone)?;
                 Ok(TemporalMetadata::Timestamp(unit, Some(zone)))
+            }
+        }
+    }
+
+    /// Equal metadata. OutOfMemory alone is refused.
+    pub fn try_clone(&self, alloc: Global) -> Result<TemporalMetadata, TemporalError>
+        ensures metadata { IfOk result (λ m. metadata_term m ≡ metadata_term self.now) }
+        ensures memory { IsOkUnless result TemporalError.OutOfMemory }
+    {
+        match self {
+            TemporalMetadata::Time(unit) => Ok(TemporalMetadata::Time(*unit)),
+            TemporalMetadata::Date(unit) => Ok(TemporalMetadata::Date(*unit)),
+            TemporalMetadata::Timestamp(unit, None) => Ok(TemporalMetadata::Timestamp(*unit, None)),
+            TemporalMetadata::Timestamp(unit, Some(zone)) => {
+                let zone = String::from_str(alloc, zone.as_str())?;
+                Ok(TemporalMetadata::Timestamp(*unit, Some(zone)))
             }
         }
     }

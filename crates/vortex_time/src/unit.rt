@@ -1,12 +1,17 @@
 //! Units of time.
 
 ghost use Rattle.std.specs.Prelude.{◌≡◌, ◌↔◌, ◌≤◌, Some, IsOk, IfOk, IfErr, unsigned_abs};
+ghost use Rattle.std.specs.Ordering.{on, nat_cmp, as_partial_cmp};
+ghost use Rattle.std.specs.Cmp.{partial_order_from_own_ties};
+ghost use Rattle.std.specs.Cmp.Rules.{comparing};
+ghost use Rattle.std.proofs.Common.{rules};
 ghost use Rattle.jiff.specs.Words.{IsOnly};
 ghost use Rattle.vortex_time.specs.declared.error.TemporalError.TheVariants.{OutOfRange};
 ghost use Rattle.vortex_time.specs.Units.{unit_tag, unit_of, unit_text, span_limit, span_unit};
 
 use crate::error::TemporalError;
 use jiff::{Span, ToSpan};
+use std::cmp::Ordering;
 use std::fmt;
 
 /// A unit in which times are counted.
@@ -71,6 +76,32 @@ impl TimeUnit {
             TimeUnit::Seconds => 400_000_000_000,
             TimeUnit::Days => 5_000_000,
         }
+    }
+}
+
+impl PartialOrd for TimeUnit {
+    ghost partial_cmp = { as_partial_cmp (on unit_tag nat_cmp) };
+
+    ghost laws = { partial_order_from_own_ties
+        (Prim.search (comparing, rules)) (Prim.search (comparing, rules)) };
+
+    fn partial_cmp(&self, other: &TimeUnit) -> Option<Ordering> {
+        Some(self.cmp(other))
+    }
+}
+
+impl Ord for TimeUnit {
+    ghost cmp = { on unit_tag nat_cmp };
+
+    ghost total = { Prim.search (comparing, rules) };
+
+    ghost matches_partial_cmp = { Prim.search (comparing, rules) };
+
+    ghost matches_eq = { Prim.search (comparing, rules) };
+
+    /// The unit of the lesser tag is the lesser one: nanoseconds first, days last.
+    fn cmp(&self, other: &TimeUnit) -> Ordering {
+        self.tag().cmp(&other.tag())
     }
 }
 

@@ -2,6 +2,7 @@
 
 use jiff::Span;
 use std::alloc::Global;
+use std::cmp::Ordering;
 use vortex_names::{ExtID, ExtMetadata, Nullability};
 use vortex_number::PType;
 use vortex_time::{
@@ -152,6 +153,35 @@ fn units_have_tags_and_texts(rt: HostRuntime) {
     assert_eq!(rt; tag_error(4), 0);
     assert_eq!(rt; tag_error(5), 4);
     assert_eq!(rt; TimeUnit::Milliseconds.tag(), 2);
+}
+
+#[test]
+fn longer_units_are_greater(rt: HostRuntime) {
+    assert!(rt; TimeUnit::Nanoseconds < TimeUnit::Microseconds);
+    assert!(rt; TimeUnit::Microseconds < TimeUnit::Milliseconds);
+    assert!(rt; TimeUnit::Milliseconds < TimeUnit::Seconds);
+    assert!(rt; TimeUnit::Seconds < TimeUnit::Days);
+    assert_eq!(rt; TimeUnit::Days.cmp(&TimeUnit::Nanoseconds), Ordering::Greater);
+    assert_eq!(rt; TimeUnit::Seconds.cmp(&TimeUnit::Seconds), Ordering::Equal);
+}
+
+/// Whether what these bytes of an id say is equal to its copy, and has this zone.
+fn is_copied(alloc: Global, id: &str, bytes: &[u8], zone: Option<&str>) -> bool {
+    match read(alloc, id, Some(bytes)) {
+        Ok(metadata) => match metadata.try_clone(alloc) {
+            Ok(copy) => copy == metadata && copy.time_zone() == zone,
+            Err(_) => false,
+        },
+        Err(_) => false,
+    }
+}
+
+#[test]
+fn copies_are_equal(rt: HostRuntime) {
+    assert!(rt; is_copied(rt.alloc(), TIME_ID, &[1], None));
+    assert!(rt; is_copied(rt.alloc(), DATE_ID, &[4], None));
+    assert!(rt; is_copied(rt.alloc(), TIMESTAMP_ID, &[3, 0, 0], None));
+    assert!(rt; is_copied(rt.alloc(), TIMESTAMP_ID, &[2, 1, 0, 90], Some("Z")));
 }
 
 /// The seconds, the days, the nanoseconds, the microseconds and the milliseconds of a span of so
