@@ -1,6 +1,7 @@
 //! The answer to a question.
 
 use crate::arrays::rows_answer;
+use crate::jsons::json_type_answer;
 use crate::messages::messages_answer;
 use crate::operations::{bounds_answer, cast_answer, numeric_answer};
 use crate::protos::{proto_type_answer, resolve_answer};
@@ -12,6 +13,7 @@ use vortex_buffer::BufferError;
 use vortex_dtype::DTypeError;
 use vortex_ipc::IpcError;
 use vortex_scalar::ScalarError;
+use vortex_time::TemporalError;
 
 /// Why a question has no answer, or a name alone.
 pub(crate) enum Refusal {
@@ -23,6 +25,8 @@ pub(crate) enum Refusal {
     Scalar(ScalarError),
     /// A call on arrays refused.
     Array(ArrayError),
+    /// A call on JSON refused.
+    Json(TemporalError),
     /// Lack of memory.
     OutOfMemory,
 }
@@ -50,6 +54,15 @@ impl From<ArrayError> for Refusal {
         match error {
             ArrayError::OutOfMemory => Refusal::OutOfMemory,
             _ => Refusal::Array(error),
+        }
+    }
+}
+
+impl From<TemporalError> for Refusal {
+    fn from(error: TemporalError) -> Refusal {
+        match error {
+            TemporalError::OutOfMemory => Refusal::OutOfMemory,
+            _ => Refusal::Json(error),
         }
     }
 }
@@ -92,12 +105,15 @@ pub(crate) fn answer(alloc: Global, line: &str) -> Result<String, AllocError> {
         Err(Refusal::Type(error)) => format!(in alloc; "{error:?}"),
         Err(Refusal::Scalar(error)) => format!(in alloc; "{error:?}"),
         Err(Refusal::Array(error)) => format!(in alloc; "{error:?}"),
+        Err(Refusal::Json(error)) => format!(in alloc; "{error:?}"),
         Err(Refusal::OutOfMemory) => Err(AllocError),
     }
 }
 
+/// The answer to a question, by how many words stand behind its name.
 fn asked(alloc: Global, line: &str) -> Result<String, Refusal> {
     let mut words = line.split(' ');
+    let name = words.next().unwrap_or("");
     match (
         words.next(),
         words.next(),
@@ -105,26 +121,36 @@ fn asked(alloc: Global, line: &str) -> Result<String, Refusal> {
         words.next(),
         words.next(),
     ) {
-        (Some("type"), Some(place), Some(bytes), None, None) => type_answer(alloc, place, bytes),
-        (Some("same"), Some(one), Some(other), None, None) => same_answer(alloc, one, other),
-        (Some("proto-type"), Some(bytes), None, None, None) => proto_type_answer(alloc, bytes),
-        (Some("resolve"), Some(path), Some(dtype), None, None) => {
-            resolve_answer(alloc, path, dtype)
-        }
-        (Some("scalar"), Some(bytes), None, None, None) => scalar_answer(alloc, bytes),
-        (Some("order"), Some(one), Some(other), None, None) => order_answer(alloc, one, other),
-        (Some("numeric"), Some(op), Some(one), Some(other), None) => {
+        (Some(word), None, None, None, None) => answer_of_one(alloc, name, word),
+        (Some(one), Some(other), None, None, None) => answer_of_two(alloc, name, one, other),
+        (Some(op), Some(one), Some(other), None, None) if name == "numeric" => {
             numeric_answer(alloc, op, one, other)
         }
-        (Some("bounds"), Some(length), Some(bytes), None, None) => {
-            bounds_answer(alloc, length, bytes)
+        (Some(names), Some(count), Some(dtype), Some(body), None) if name == "rows" => {
+            rows_answer(alloc, names, count, dtype, body)
         }
-        (Some("cast"), Some(scalar), Some(dtype), None, None) => cast_answer(alloc, scalar, dtype),
-        (Some("messages"), Some(sizes), Some(bytes), None, None) => {
-            messages_answer(alloc, sizes, bytes)
-        }
-        (Some("rows"), Some(names), Some(count), Some(dtype), Some(body))
-            if words.next().is_none() => { rows_answer(alloc, names, count, dtype, body) }
+        _ => Err(Refusal::Unknown),
+    }
+}
+
+fn answer_of_one(alloc: Global, name: &str, bytes: &str) -> Result<String, Refusal> {
+    match name {
+        "proto-type" => proto_type_answer(alloc, bytes),
+        "json-type" => json_type_answer(alloc, bytes),
+        "scalar" => scalar_answer(alloc, bytes),
+        _ => Err(Refusal::Unknown),
+    }
+}
+
+fn answer_of_two(alloc: Global, name: &str, one: &str, other: &str) -> Result<String, Refusal> {
+    match name {
+        "type" => type_answer(alloc, one, other),
+        "same" => same_answer(alloc, one, other),
+        "resolve" => resolve_answer(alloc, one, other),
+        "order" => order_answer(alloc, one, other),
+        "bounds" => bounds_answer(alloc, one, other),
+        "cast" => cast_answer(alloc, one, other),
+        "messages" => messages_answer(alloc, one, other),
         _ => Err(Refusal::Unknown),
     }
 }

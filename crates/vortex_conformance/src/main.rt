@@ -4,6 +4,7 @@
 
 mod answers;
 mod arrays;
+mod jsons;
 mod messages;
 mod operations;
 mod protos;
