@@ -1,6 +1,6 @@
 //! Offsets that are made one by one.
 
-ghost use Rattle.std.specs.Prelude.{◌≡◌, ◌≤◌, ◌∷◌, [], ◌++◌, IfOk, IfErr, MatchResult};
+ghost use Rattle.std.specs.Prelude.{◌≡◌, ◌≤◌, ◌∷◌, [], ◌++◌, IfOk, IfErr, MatchResult, OnErr};
 ghost use Rattle.vortex_terms.specs.FromColumns.{last_from};
 
 use crate::LeafError;
@@ -46,6 +46,7 @@ impl OffsetsBuilder {
     pub fn push(&mut self, offset: u32) -> Result<(), LeafError>
         requires rise { last_from 0 self.old ≤ offset }
         ensures pushed { IfOk result (λ _. self.new ≡ self.old ++ offset ∷ []) }
+        ensures left { OnErr result (self.new ≡ self.old) }
         ensures error { IfErr result (λ e. e ≡ LeafError.OutOfMemory) }
     {
         self.bytes.extend_from_slice(&offset.to_le_bytes())?;
