@@ -15,4 +15,6 @@ mod part_tests;
 #[cfg(test)]
 mod row_tests;
 #[cfg(test)]
+mod temporal_tests;
+#[cfg(test)]
 mod text_tests;
