@@ -4,5 +4,6 @@ pub mod DefaultRows
 pub mod TextLemmas
 pub mod Reading
 pub mod MomentTexts
+pub mod Ranged
 pub mod TemporalRows
 pub mod RowTexts
