@@ -100,9 +100,6 @@ by_told (Err e) v h = ap not h
 is_told : (id : List ℕ) (m : Option (List ℕ)) (v : ℤ) → told (unzoned_of id m v) ≡ is_read (metadata_of id m)
 is_told id m v = by_told (metadata_of id m) v (metadata_reads id m)
 
--- metadata is read where a number is a moment under it, and where it is refused otherwise
-pub read_where : (id : List ℕ) (m : Option (List ℕ)) (v : ℤ) (moment : Moment) → Ok moment ≡ unzoned_of id m v → true ≡ is_read (metadata_of id m)
-read_where id m v moment e = ap told e ∙ is_told id m v
-
+-- metadata is read where what is refused of a number is none of its refusals
 pub read_unless : (id : List ℕ) (m : Option (List ℕ)) (v : ℤ) (e : TemporalError) → Err e ≡ unzoned_of id m v → not (is_of_metadata e) ≡ is_read (metadata_of id m)
 read_unless id m v e k = ap told k ∙ is_told id m v
