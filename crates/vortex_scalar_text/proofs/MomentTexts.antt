@@ -1,5 +1,5 @@
 -- The texts of moments are those that jiff prints.
-use Rattle.std.proofs.Common.{◌≡◌, ◌+◌, ◌/◌, ◌%◌, ◌<◌, ◌≤◌, ℕ, zero, suc, ℤ, pos, negsuc, ◌+ℤ◌, ◌-ℤ◌, ◌<ℤ◌, ◌≤ℤ◌, Bool, true, false, List, [], ◌∷◌, ◌++◌, None, inl, inr, refl, sym, ap, ◌∙◌, arith, rules}
+use Rattle.std.proofs.Common.{◌≡◌, ◌+◌, ◌/◌, ◌%◌, ◌<◌, ◌≤◌, ℕ, zero, suc, ℤ, pos, negsuc, ◌+ℤ◌, ◌-ℤ◌, ◌<ℤ◌, ◌≤ℤ◌, Bool, true, false, [], ◌∷◌, ◌++◌, None, inl, inr, refl, sym, ap, ◌∙◌, arith}
 use Rattle.std.specs.Prelude.{int_le, unsigned_abs, if◌then◌else◌}
 use Rattle.std.specs.Int.{int_rem_euclid}
 use Rattle.std.proofs.lemmas.Bool.{cases_order}
@@ -27,16 +27,18 @@ last_is f (suc n) k z within low high =
   where
     here : int_le (f (suc n)) z ≡ true → suc n ≡ k
     here e = elim (cases_order k (suc n)) [
-        | inl same ↦ sym same
-        | inr (inl lt) ↦ absurd (omega (arith, ints, high (suc n) lt (omega arith), e))
-        | inr (inr gt) ↦ absurd (omega (arith, within))
-      ]
+      | inl same ↦ sym same
+      | inr (inl lt) ↦ absurd (omega (arith, ints, high (suc n) lt (omega arith), e))
+      | inr (inr gt) ↦ absurd (omega (arith, within))
+    ]
+
     before : int_le (f (suc n)) z ≡ false → k ≤ n
     before e = elim (cases_order k (suc n)) [
-        | inl same ↦ absurd (omega (arith, ints, rw same at low, e))
-        | inr (inl lt) ↦ omega (arith, lt)
-        | inr (inr gt) ↦ absurd (omega (arith, within))
-      ]
+      | inl same ↦ absurd (omega (arith, ints, rw same at low, e))
+      | inr (inl lt) ↦ omega (arith, lt)
+      | inr (inr gt) ↦ absurd (omega (arith, within))
+    ]
+
     by : (k ≤ n → last_at_most f n z ≡ k) → (b : Bool) → int_le (f (suc n)) z ≡ b → (if b then suc n else last_at_most f n z) ≡ k
     by again true e = here e
     by again false e = again (before e)

@@ -1,5 +1,5 @@
 -- Whether metadata is read, told from what a number is under it.
-use Rattle.std.proofs.Common.{◌≡◌, ℕ, ℤ, Bool, true, false, List, [], ◌∷◌, Option, Some, None, Result, Ok, Err, refl, sym, ap, ◌∙◌}
+use Rattle.std.proofs.Common.{◌≡◌, ℕ, ℤ, Bool, true, false, List, [], ◌∷◌, Option, Some, None, Result, Ok, Err, refl, ap, ◌∙◌}
 use Rattle.std.specs.Prelude.{◌+◌, ◌*◌, ◌==◌, nat_eq, nat_lt, bytes_eq, length, take, not, if◌then◌else◌}
 use Rattle.std.specs.Str.{is_utf8}
 use Rattle.vortex_time.specs.Metadata.{Metadata, time, date, timestamp, metadata_of, first_unit, second_zone, named_zone, timed, dated, stamped}
@@ -77,9 +77,9 @@ metadata_reads id None = refl
 metadata_reads id (Some bytes) =
     let first = first_reads bytes in
     id_by (bytes_eq id TIME_ID.now) (bytes_eq id DATE_ID.now) (bytes_eq id TIMESTAMP_ID.now)
-        (timed (first_unit bytes)) (dated (first_unit bytes)) (stamped (first_unit bytes) (second_zone bytes))
-        (timed_reads (first_unit bytes) first) (dated_reads (first_unit bytes) first)
-        (stamped_reads (first_unit bytes) (second_zone bytes) first (second_reads bytes))
+    (timed (first_unit bytes)) (dated (first_unit bytes)) (stamped (first_unit bytes) (second_zone bytes))
+    (timed_reads (first_unit bytes) first) (dated_reads (first_unit bytes) first)
+    (stamped_reads (first_unit bytes) (second_zone bytes) first (second_reads bytes))
 
 allowed_told : (a b : Bool) (m : Moment) → told {X = Moment} (if a then held b m else Err error.UnitNotAllowed) ≡ true
 allowed_told true true m = refl

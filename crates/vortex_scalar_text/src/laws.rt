@@ -151,12 +151,14 @@ pub fn texts_follow_rows()
 
 /// Texts of times, and of what is none.
 pub fn temporal_texts_are_worked()
-    ensures times { let t = extension (codes "vortex.time") (primitive signed_32 true) (Some (3 ∷ [])) in
+    ensures times { let whole = primitive signed_32 true in
+        let t = extension (codes "vortex.time") whole (Some (3 ∷ [])) in
         (scalar_text t (whole_value signed_32 (pos 205)) ≡ codes "00:03:25")
         × (scalar_text t (whole_value signed_32 (pos 86_400)) ≡ codes "vortex.time(86400i32)")
         × (scalar_text t null_value ≡ codes "null") }
     ensures nulls { let zone = 3 ∷ 3 ∷ 0 ∷ codes "UTC" in let whole = primitive signed_64 true in
-        (scalar_text (extension (codes "vortex.date") whole (Some (4 ∷ []))) null_value ≡ codes "null")
+        (scalar_text (extension (codes "vortex.date") whole (Some (4 ∷ []))) null_value
+        ≡ codes "null")
         × (scalar_text (extension (codes "vortex.timestamp") whole (Some zone)) null_value
         ≡ codes "null")
         × (scalar_text (extension (codes "vortex.date") whole None) null_value
@@ -173,8 +175,7 @@ pub fn temporal_texts_are_worked()
         × (scalar_text t null_value ≡ codes "null") }
 {}
 
-/// What is printed of a moment is what `jiff` prints of the value that is it: no other text is that
-/// of a time, a date, or a date with a time.
+/// What is printed of a time, a date, or a date with a time is what `jiff` prints of it.
 pub fn texts_are_those_of_jiff()
     ensures { (c : CivilJiff) → moment_text (civil_moment c) ≡ civil_text c }
 {}

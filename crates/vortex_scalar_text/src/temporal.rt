@@ -42,10 +42,14 @@ pub(crate) fn temporal_in(
 
 /// Null, where the metadata is read.
 fn null_in(id: &str, metadata: Option<&[u8]>) -> Option<Option<CivilJiff>>
-    ensures { option_map shown_text result
-        ≡ (if is_read (metadata_of id.now (option_copied metadata.entry)) then Some null_text else None) }
+    ensures { let metadata = metadata_of id.now (option_copied metadata.entry) in
+        option_map shown_text result ≡ (if is_read metadata then Some null_text else None) }
 {
-    if is_read(id, metadata) { Some(None) } else { None }
+    if is_read(id, metadata) {
+        Some(None)
+    } else {
+        None
+    }
 }
 
 /// Whether the metadata of an id is read.

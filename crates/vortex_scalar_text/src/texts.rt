@@ -76,7 +76,8 @@ fn write_stored<W: fmt::Write>(
     value: &ScalarValue,
     f: &mut fmt::Formatter<W>,
 ) -> fmt::Result
-    ensures { let text = id.now ++ codes "(" ++ scalar_text (ref_term storage.entry) value.now ++ codes ")" in
+    ensures { let stored = scalar_text (ref_term storage.entry) value.now in
+        let text = id.now ++ codes "(" ++ stored ++ codes ")" in
         WritesOnOk W.write_str_gives f.old result text f.new }
 {
     f.write_str(id)?;
