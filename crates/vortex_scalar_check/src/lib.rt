@@ -17,6 +17,8 @@ mod part_tests;
 #[cfg(test)]
 mod row_tests;
 #[cfg(test)]
+mod temporal_tests;
+#[cfg(test)]
 mod text_tests;
 
 pub use laws::{orders_are_worked, values_are_worked};

@@ -2,4 +2,8 @@ pub mod Sized
 pub mod SizeOfRow
 pub mod DefaultRows
 pub mod TextLemmas
+pub mod Reading
+pub mod MomentTexts
+pub mod Ranged
+pub mod TemporalRows
 pub mod RowTexts

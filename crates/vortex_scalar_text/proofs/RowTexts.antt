@@ -20,6 +20,7 @@ use Rattle.vortex_scalar_text.specs.Size.{inner_rows}
 use Rattle.vortex_scalar_text.specs.ScalarText.{null_text, quoted, hex_text, scalar_text, field_texts}
 use Rattle.vortex_scalar_text.specs.Widths.{holds_decimals, any_decimals}
 use Rattle.vortex_scalar_text.proofs.SizeOfRow.{rows_of}
+use Rattle.vortex_scalar_text.proofs.TemporalRows.{row_shown, shown_agrees}
 
 -- the text of a row; that of a decimal is not said
 abbrev mutual
@@ -30,7 +31,8 @@ abbrev mutual
   row_text (binary n) (bytes_row bs) = quoted (hex_text bs)
   row_text (structure fs n) (list_row rs) = codes "{" ++ joined (codes ", ") (rows_texts fs rs) ++ codes "}"
   row_text (list t n) (list_row rs) = codes "[" ++ joined (codes ", ") (map (row_text t) (row_list rs)) ++ codes "]"
-  row_text (extension id t m) r = id ++ codes "(" ++ row_text t r ++ codes ")"
+  row_text (extension id t m) r =
+      option_map_or (λ text. text) (row_shown id t m r) (id ++ codes "(" ++ row_text t r ++ codes ")")
   row_text (fixed_size_list t k n) (list_row rs) =
       codes "fixed_size<" ++ numbers.decimal k ++ codes ">[" ++ joined (codes ", ") (map (row_text t) (row_list rs)) ++ codes "]"
   row_text _ _ = null_text
@@ -103,7 +105,8 @@ mutual
       let is = rows_are (rows_by (row_of t) vs) r e in
       ap (λ ts. codes "[" ++ joined (codes ", ") ts ++ codes "]") (list_shown t vs (inner_rows r) d (ap (is_fitting (list t n)) is ∙ f) (rows_of (rows_by (row_of t) vs) r e))
       ∙ ap (row_text (list t n)) is
-  text_of_row (extension id t m) v r d f e = ap (λ ts. id ++ codes "(" ++ ts ++ codes ")") (text_of_row t v r d f e)
+  text_of_row (extension id t m) v r d f e =
+      (λ i. option_map_or (λ text. text) (shown_agrees id t m v r e i) (id ++ codes "(" ++ text_of_row t v r d f e i ++ codes ")"))
   text_of_row (fixed_size_list t k n) null_value r d f e = ap (row_text (fixed_size_list t k n)) (same_Some null_row r e)
   text_of_row (fixed_size_list t k n) (list_value vs) r d f e =
       let is = rows_are (rows_by (row_of t) vs) r e in

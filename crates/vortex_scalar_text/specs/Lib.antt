@@ -1,4 +1,6 @@
 pub mod Size
+pub mod MomentText
+pub mod TemporalText
 pub mod ScalarText
 pub mod Widths
 pub mod inner

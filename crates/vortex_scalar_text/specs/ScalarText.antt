@@ -1,4 +1,5 @@
--- How scalars are printed, of a value that fits the type. Any other value is printed as null.
+-- How scalars are printed, of a value that fits the type. Any other value is printed as null. A scalar of times, dates
+-- or timestamps is printed as its moment where `temporal_text` has a text.
 --     scalar_text          the text of a scalar, as {a: 1i32, b: ["x"]}
 --     decimal_in           the width in bits and the number of a decimal's value
 --     hex_text             bytes in hexadecimal with a blank between each two
@@ -15,6 +16,7 @@ use Rattle.vortex_terms.specs.Term.{WholeKind, Term, null, boolean, primitive, d
 use Rattle.vortex_scalar_value.specs.Joined.{joined}
 use Rattle.vortex_scalar_value.specs.Value.{ValueTerm, truth_value, whole_value, decimal_value, bytes_value, text_value, list_value, value_list}
 use Rattle.vortex_value_rows.specs.RowOf.{number_of_bytes}
+use Rattle.vortex_scalar_text.specs.TemporalText.{temporal_text}
 
 abbrev pub null_text : List ℕ
 null_text = codes "null"
@@ -86,7 +88,8 @@ abbrev mutual
       option_map_or (λ vs. codes "{" ++ joined (codes ", ") (field_texts fs vs) ++ codes "}") (values_of v) null_text
   scalar_text (list t n) v =
       option_map_or (λ vs. codes "[" ++ joined (codes ", ") (map (scalar_text t) vs) ++ codes "]") (values_of v) null_text
-  scalar_text (extension id t m) v = id ++ codes "(" ++ scalar_text t v ++ codes ")"
+  scalar_text (extension id t m) v =
+      option_map_or (λ text. text) (temporal_text id t m v) (id ++ codes "(" ++ scalar_text t v ++ codes ")")
   scalar_text (fixed_size_list t k n) v =
       option_map_or (λ vs. codes "fixed_size<" ++ numbers.decimal k ++ codes ">[" ++ joined (codes ", ") (map (scalar_text t) vs) ++ codes "]")
       (values_of v) null_text

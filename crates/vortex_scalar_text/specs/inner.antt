@@ -1,3 +1,4 @@
 pub mod Sizes
 pub mod Defaults
 pub mod FieldTexts
+pub mod Shown

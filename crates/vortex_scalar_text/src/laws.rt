@@ -4,7 +4,7 @@ ghost use Rattle.std.specs.Prelude.{◌≡◌, ◌++◌, [], ◌∷◌, codes, f
 ghost use Rattle.std.specs.Prelude.{None, Some};
 ghost use Rattle.vortex_terms.specs.Term.{Term, binary, boolean, decimal, extension, field};
 ghost use Rattle.vortex_terms.specs.Term.{fixed_size_list, list, no_fields, null, primitive};
-ghost use Rattle.vortex_terms.specs.Term.{signed_32, structure, unsigned_8, utf8};
+ghost use Rattle.vortex_terms.specs.Term.{signed_32, signed_64, structure, unsigned_8, utf8};
 ghost use Rattle.vortex_terms.specs.Row.{Row, bytes_row, list_row, no_rows, null_row, row};
 ghost use Rattle.vortex_terms.specs.Row.{whole_row};
 ghost use Rattle.vortex_terms.specs.Fits.{Fits};
@@ -14,6 +14,9 @@ ghost use Rattle.vortex_scalar_value.specs.Value.{list_value, no_values, null_va
 ghost use Rattle.vortex_scalar_value.specs.Value.{truth_value, value, whole_value};
 ghost use Rattle.vortex_scalar_value.specs.ValueText.{value_text};
 ghost use Rattle.vortex_value_rows.specs.RowOf.{row_of};
+ghost use Rattle.vortex_time.specs.Jiff.{civil_moment, civil_text};
+ghost use Rattle.vortex_time.specs.declared.values.CivilJiff.{CivilJiff};
+ghost use Rattle.vortex_scalar_text.specs.MomentText.{moment_text};
 ghost use Rattle.vortex_scalar_text.specs.ScalarText.{scalar_text};
 ghost use Rattle.vortex_scalar_text.specs.Size.{byte_size, in_usize};
 ghost use Rattle.vortex_scalar_text.specs.Widths.{holds_decimals};
@@ -144,4 +147,35 @@ pub fn value_texts_are_worked()
 pub fn texts_follow_rows()
     ensures { (t : Term) (v w : ValueTerm) (r : Row) → holds_decimals t ≡ false → Fits t r
         → row_of t v ≡ Some r → row_of t w ≡ Some r → scalar_text t v ≡ scalar_text t w }
+{}
+
+/// Texts of times, and of what is none.
+pub fn temporal_texts_are_worked()
+    ensures times { let whole = primitive signed_32 true in
+        let t = extension (codes "vortex.time") whole (Some (3 ∷ [])) in
+        (scalar_text t (whole_value signed_32 (pos 205)) ≡ codes "00:03:25")
+        × (scalar_text t (whole_value signed_32 (pos 86_400)) ≡ codes "vortex.time(86400i32)")
+        × (scalar_text t null_value ≡ codes "null") }
+    ensures nulls { let zone = 3 ∷ 3 ∷ 0 ∷ codes "UTC" in let whole = primitive signed_64 true in
+        (scalar_text (extension (codes "vortex.date") whole (Some (4 ∷ []))) null_value
+        ≡ codes "null")
+        × (scalar_text (extension (codes "vortex.timestamp") whole (Some zone)) null_value
+        ≡ codes "null")
+        × (scalar_text (extension (codes "vortex.date") whole None) null_value
+        ≡ codes "vortex.date(null)") }
+    ensures stored { let zone = 3 ∷ 3 ∷ 0 ∷ codes "UTC" in let whole = primitive signed_64 true in
+        let one = whole_value signed_64 (pos 1) in
+        (scalar_text (extension (codes "vortex.timestamp") whole (Some zone)) one
+        ≡ codes "vortex.timestamp(1i64)")
+        × (scalar_text (extension (codes "vortex.date") whole (Some (3 ∷ []))) one
+        ≡ codes "vortex.date(1i64)")
+        × (scalar_text (extension (codes "x") whole (Some (4 ∷ []))) one ≡ codes "x(1i64)") }
+    ensures others { let t = extension (codes "vortex.date") (boolean true) (Some (4 ∷ [])) in
+        (scalar_text t (truth_value true) ≡ codes "vortex.date(true)")
+        × (scalar_text t null_value ≡ codes "null") }
+{}
+
+/// What is printed of a time, a date, or a date with a time is what `jiff` prints of it.
+pub fn texts_are_those_of_jiff()
+    ensures { (c : CivilJiff) → moment_text (civil_moment c) ≡ civil_text c }
 {}

@@ -18,6 +18,7 @@ ghost use Rattle.vortex_scalar_text.specs.ScalarText.{number_text, quoted, scala
 ghost use Rattle.vortex_scalar_text.specs.ScalarText.{text_in, truth_text, values_of, width_bits};
 ghost use Rattle.vortex_scalar_text.specs.inner.FieldTexts.{field_text};
 
+use crate::temporal::{temporal_in, write_shown};
 use std::{fmt, str};
 use vortex_names::DecimalDType;
 use vortex_number::PType;
@@ -51,11 +52,11 @@ pub fn write_scalar<W: fmt::Write>(
             Some(values) => write_list(element, values, f),
             None => f.write_str("null"),
         },
-        Shape::Extension(id, storage, _) => {
-            f.write_str(id)?;
-            f.write_str("(")?;
-            write_scalar(storage, value, f)?;
-            f.write_str(")")
+        Shape::Extension(id, storage, metadata) => {
+            match temporal_in(id, storage, metadata, value) {
+                Some(shown) => write_shown(shown, f),
+                None => write_stored(id, storage, value, f),
+            }
         }
         Shape::FixedSizeList(element, size, _) => match values_in(value) {
             Some(values) => {
@@ -65,6 +66,24 @@ pub fn write_scalar<W: fmt::Write>(
             None => f.write_str("null"),
         },
     }
+}
+
+/// Writes an id and the scalar of a storage.
+#[cycle(printing)]
+fn write_stored<W: fmt::Write>(
+    id: &str,
+    storage: TypeRef<'_>,
+    value: &ScalarValue,
+    f: &mut fmt::Formatter<W>,
+) -> fmt::Result
+    ensures { let stored = scalar_text (ref_term storage.entry) value.now in
+        let text = id.now ++ codes "(" ++ stored ++ codes ")" in
+        WritesOnOk W.write_str_gives f.old result text f.new }
+{
+    f.write_str(id)?;
+    f.write_str("(")?;
+    write_scalar(storage, value, f)?;
+    f.write_str(")")
 }
 
 /// Writes a list.

@@ -161,7 +161,10 @@ fn longer_units_are_greater(rt: HostRuntime) {
     assert!(rt; TimeUnit::Microseconds < TimeUnit::Milliseconds);
     assert!(rt; TimeUnit::Milliseconds < TimeUnit::Seconds);
     assert!(rt; TimeUnit::Seconds < TimeUnit::Days);
-    assert_eq!(rt; TimeUnit::Days.cmp(&TimeUnit::Nanoseconds), Ordering::Greater);
+    assert_eq!(rt;
+        TimeUnit::Days.cmp(&TimeUnit::Nanoseconds),
+        Ordering::Greater
+    );
     assert_eq!(rt; TimeUnit::Seconds.cmp(&TimeUnit::Seconds), Ordering::Equal);
 }
 

@@ -10,6 +10,9 @@ use Rattle.vortex_scalar_text.proofs.texts.+printing.Given as goal
 abbrev pub decreases-write_scalar : goal.decreases-write_scalar
 decreases-write_scalar g l = 3 * weight (ref_term l.of)
 
+abbrev pub decreases-write_stored : goal.decreases-write_stored
+decreases-write_stored g l = 3 * weight (ref_term l.storage) + 1
+
 abbrev pub decreases-write_list : goal.decreases-write_list
 decreases-write_list g l = 3 * weight (ref_term l.element) + 1
 
