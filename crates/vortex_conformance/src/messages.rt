@@ -20,19 +20,35 @@ struct Decoding {
 pub(crate) fn messages_answer(alloc: Global, sizes: &str, bytes: &str) -> Result<String, Refusal> {
     let bytes = buffer_of(alloc, bytes)?;
     let sizes = sizes_of(alloc, sizes)?;
+    let queue = BytesQueue::new(alloc)?;
+    decoder_answer(alloc, queue, &sizes, bytes.as_slice())
+}
+
+fn decoder_answer(
+    alloc: Global,
+    queue: BytesQueue,
+    sizes: &[usize],
+    bytes: &[u8],
+) -> Result<String, Refusal> {
     let mut decoding = Decoding {
         decoder: MessageDecoder::new(ArrayRegistry::canonical_only()),
-        queue: BytesQueue::new(alloc)?,
+        queue,
         answer: String::new(alloc),
     };
-    let last = match decode_pieces(alloc, &mut decoding, &sizes, bytes.as_slice()) {
-        Ok(need) => format!(in alloc; "need:{need}")?,
-        Err(IpcError::OutOfMemory) => return Err(Refusal::OutOfMemory),
-        Err(IpcError::WrongKind { found: _ }) => String::from_str(alloc, "WrongKind")?,
-        Err(error) => format!(in alloc; "{error:?}")?,
-    };
+    let ended = decode_pieces(alloc, &mut decoding, sizes, bytes);
+    let last = last_answer(alloc, ended)?;
     decoding.answer.push_str(last.as_str())?;
     Ok(decoding.answer)
+}
+
+/// The number of bytes that are needed, or the refusal.
+fn last_answer(alloc: Global, ended: Result<usize, IpcError>) -> Result<String, Refusal> {
+    match ended {
+        Ok(need) => Ok(format!(in alloc; "need:{need}")?),
+        Err(IpcError::OutOfMemory) => Err(Refusal::OutOfMemory),
+        Err(IpcError::WrongKind { found: _ }) => Ok(String::from_str(alloc, "WrongKind")?),
+        Err(error) => Ok(format!(in alloc; "{error:?}")?),
+    }
 }
 
 /// Numbers with commas between them.
@@ -83,15 +99,18 @@ fn cut(bytes: &[u8], size: usize) -> (&[u8], &[u8])
 fn decode_queue(alloc: Global, decoding: &mut Decoding) -> Result<usize, IpcError> {
     for _ in 0..=decoding.queue.len() {
         match decoding.decoder.read_next(alloc, &mut decoding.queue)? {
-            PollRead::Some(message) => {
-                let text = message_text(alloc, &message)?;
-                decoding.answer.push_str(text.as_str())?;
-                decoding.answer.push_str(" ")?;
-            }
+            PollRead::Some(message) => tell(alloc, &mut decoding.answer, &message)?,
             PollRead::NeedMore(need) => return Ok(need),
         }
     }
     Err(IpcError::Failed)
+}
+
+/// Puts a message and a blank behind the answer.
+fn tell(alloc: Global, answer: &mut String, message: &DecoderMessage) -> Result<(), AllocError> {
+    let text = message_text(alloc, message)?;
+    answer.push_str(text.as_str())?;
+    answer.push_str(" ")
 }
 
 fn message_text(alloc: Global, message: &DecoderMessage) -> Result<String, AllocError> {
