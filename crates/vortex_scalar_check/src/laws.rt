@@ -15,7 +15,7 @@ ghost use Rattle.vortex_scalar_value.specs.Value.{truth_value, value, whole_valu
 ghost use Rattle.vortex_value_rows.specs.RowOf.{fitting_row, row_of};
 
 /// Rows that values are under types: numbers of any kind, where they fit; bytes of decimals, the
-/// lowest first and with a sign; digits; texts as bytes; storages; and values of another form, of too
+/// lowest first and with a sign; digits, which are not counted; texts as bytes; storages; and values of another form, of too
 /// few fields or elements, and null. It does nothing when the program runs.
 pub fn values_are_worked()
     ensures number { fitting_row (primitive unsigned_8 false) (whole_value signed_32 (pos 255))
@@ -27,10 +27,8 @@ pub fn values_are_worked()
     ensures lowest_first { row_of (decimal 5 (pos 0) false) (bytes_value (1 ∷ 2 ∷ []))
         ≡ Some (whole_row (pos 513)) }
     ensures odd_width { row_of (decimal 9 (pos 0) false) (bytes_value (1 ∷ 2 ∷ 3 ∷ [])) ≡ None }
-    ensures digits { fitting_row (decimal 2 (pos 0) false) (decimal_value width.I8 (pos 99))
-        ≡ Some (whole_row (pos 99)) }
-    ensures more_digits { fitting_row (decimal 2 (pos 0) false) (decimal_value width.I8 (pos 100))
-        ≡ None }
+    ensures digits { fitting_row (decimal 2 (pos 0) false) (decimal_value width.I8 (pos 100))
+        ≡ Some (whole_row (pos 100)) }
     ensures text { row_of (binary false) (text_value (97 ∷ [])) ≡ Some (bytes_row (97 ∷ [])) }
     ensures storage { row_of (extension (codes "x") (boolean true) None) (truth_value true)
         ≡ Some (truth_row true) }
