@@ -5,12 +5,14 @@ mod error;
 mod hash;
 mod hashed;
 mod keys;
+mod may_add;
 mod ordered;
 mod slots;
 mod table;
 
 pub use error::DictError;
 pub use hash::{BytesHash, KeyHash};
+pub use may_add::MayAdd;
 pub use table::{CodeTable, Pieces};
 
 #[cfg(test)]

@@ -13,6 +13,7 @@ ghost use Rattle.vortex_codes.specs.Table.{IsParted, IsFound};
 use crate::error::DictError;
 use crate::hash::KeyHash;
 use crate::hashed::{add_hashed, code_of};
+use crate::may_add::MayAdd;
 use crate::ordered::{add_ordered, order_of, ordered_code};
 use std::alloc::Global;
 use std::collections::BTreeMap;
@@ -241,23 +242,24 @@ impl<H: KeyHash> CodeTable<H> {
     }
 
     /// The place of the key, which is added where it is new and may be added, or nothing where it
-    /// is new and may not.
+    /// is new and may not. Whether it may is asked of a new key alone.
     #[inline(always)]
-    pub fn find_or_add(
+    pub fn find_or_add<M: MayAdd>(
         &mut self,
         key: Option<&[u8]>,
-        may_add: bool,
+        may: &M,
     ) -> Result<Option<u32>, DictError>
-        ensures keys { OnOk result (self.new ≡ (if may_add
-            then with_key same_key self.old (option_map (λ k. k.now) key.entry) else self.old)) }
-        ensures code { IfOk result (λ o. o ≡ (if may_add
-            then Some (code_in same_key self.old (option_map (λ k. k.now) key.entry))
+        ensures keys { OnOk result (self.new ≡ (if M.allows may.now (option_map (λ k. k.now)
+            key.entry) then with_key same_key self.old (option_map (λ k. k.now) key.entry)
+            else self.old)) }
+        ensures code { IfOk result (λ o. o ≡ (if M.allows may.now (option_map (λ k. k.now)
+            key.entry) then Some (code_in same_key self.old (option_map (λ k. k.now) key.entry))
             else place_of same_key (option_map (λ k. k.now) key.entry) self.old)) }
         ensures stays { OnErr result (self.new ≡ self.old) }
-        ensures new { OnErr result (IsTrue may_add
+        ensures new { OnErr result (IsTrue (M.allows may.now (option_map (λ k. k.now) key.entry))
             × (place_of same_key (option_map (λ k. k.now) key.entry) self.old ≡ None)) }
         ensures too_large { (result ≡ Err DictError.TooLarge)
-            ↔ (IsTrue may_add
+            ↔ (IsTrue (M.allows may.now (option_map (λ k. k.now) key.entry))
             × (place_of same_key (option_map (λ k. k.now) key.entry) self.old ≡ None)
             × (2 ^ 32 ≤ sum_by key_size self.old + key_size (option_map (λ k. k.now) key.entry))) }
         ensures errors { IfErr result (λ e. IsOfSize e) }
@@ -273,7 +275,7 @@ impl<H: KeyHash> CodeTable<H> {
             self.null,
             key,
         );
-        if found.is_some() || !may_add {
+        if found.is_some() || !may.may_add(key) {
             return Ok(found);
         }
         let code = add_to(

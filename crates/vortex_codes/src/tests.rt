@@ -105,7 +105,7 @@ fn calls<H: KeyHash + Drop>(alloc: Global, hash: H) -> Result<u64, DictError> {
         },
     )?;
     for n in 0..1000 {
-        let _place = table.find_or_add(Some(key_of(n).as_slice()), true)?;
+        let _place = table.find_or_add(Some(key_of(n).as_slice()), &true)?;
     }
     for n in 0..1000 {
         let _place = table.find(Some(key_of(n).as_slice()));
@@ -128,10 +128,10 @@ fn calls_of_the_hash(rt: HostRuntime) -> Result<(), Fail> {
 #[test]
 fn keys_in_one_buffer(rt: HostRuntime) -> Result<(), Fail> {
     let mut table = CodeTable::new(rt.alloc(), BytesHash)?;
-    let _place = table.find_or_add(Some(b"ab"), true)?;
-    let _place = table.find_or_add(None, true)?;
-    let _place = table.find_or_add(Some(b"c"), true)?;
-    assert_eq!(rt; table.find_or_add(Some(b"d"), false)?, None);
+    let _place = table.find_or_add(Some(b"ab"), &true)?;
+    let _place = table.find_or_add(None, &true)?;
+    let _place = table.find_or_add(Some(b"c"), &true)?;
+    assert_eq!(rt; table.find_or_add(Some(b"d"), &false)?, None);
     assert_eq!(rt; table.len(), 3);
     assert_eq!(rt; table.byte_len(), 3);
     let pieces = table.pieces();
@@ -147,10 +147,10 @@ fn no_null_in_one_buffer(rt: HostRuntime) -> Result<(), Fail> {
     let mut table = CodeTable::new(rt.alloc(), BytesHash)?;
     assert_eq!(rt; table.pieces().null, None);
     assert_eq!(rt; table.pieces().offsets, [0u32].as_slice());
-    let _place = table.find_or_add(Some(b""), true)?;
+    let _place = table.find_or_add(Some(b""), &true)?;
     assert_eq!(rt; table.pieces().null, None);
     assert_eq!(rt; table.pieces().offsets, [0u32, 0].as_slice());
-    let _place = table.find_or_add(None, true)?;
+    let _place = table.find_or_add(None, &true)?;
     assert_eq!(rt; table.pieces().null, Some(1));
     Ok(())
 }

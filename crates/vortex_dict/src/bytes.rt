@@ -2,7 +2,7 @@
 
 ghost use Rattle.std.specs.Prelude.{◌≡◌, ℕ, ◌+◌, ◌*◌, ◌^◌, ◌<◌, ◌≤◌, [], map, length, pos, false};
 ghost use Rattle.std.specs.Prelude.{IfErr, IfOk, IsErr, OnErr, Err, Some, None, IsTrue, cond};
-ghost use Rattle.std.specs.Prelude.{◌==◌, ◌↔◌, ◌-◌, if◌then◌else◌};
+ghost use Rattle.std.specs.Prelude.{◌==◌, ◌↔◌, ◌-◌, if◌then◌else◌, not, nat_lt};
 ghost use Rattle.std.specs.List.{sum_by};
 ghost use Rattle.std.specs.Option.{option_map, unwrap_or};
 ghost use Rattle.vortex_number.specs.Format.{fits};
@@ -21,7 +21,7 @@ use crate::code_type::CodeType;
 use crate::constraints::DictConstraints;
 use std::alloc::Global;
 use std::marker::{Model, PhantomData};
-use vortex_codes::{BytesHash, CodeTable, DictError, KeyHash, Pieces};
+use vortex_codes::{BytesHash, CodeTable, DictError, KeyHash, MayAdd, Pieces};
 
 /// Makes rows of bytes into values and codes, over as many columns as are handed in one after
 /// another.
@@ -93,13 +93,42 @@ fn is_over<Code: CodeType>(
     constraints: &DictConstraints,
     key: Option<&[u8]>,
 ) -> bool
-    requires { dict_bytes < 2 ^ 40 }
     ensures { result ≡ over_by Code.format constraints.now len dict_bytes
         (bytes_or_null (option_map (λ k. k.now) key.entry)) }
 {
     !has_code::<Code>(len)
         || constraints.max_len <= len
-        || (key.is_some() && constraints.max_bytes < dict_bytes + count_of(key))
+        || (key.is_some() && counts_more(constraints.max_bytes, dict_bytes, count_of(key)))
+}
+
+/// Whether two counts are more than so much.
+#[inline(always)]
+fn counts_more(most: usize, first: usize, second: usize) -> bool
+    ensures { result ≡ nat_lt most (first + second) }
+{
+    match first.checked_add(second) {
+        Some(sum) => most < sum,
+        None => true,
+    }
+}
+
+/// What a new value is tested against.
+#[derive(Drop)]
+struct Room<Code: CodeType> {
+    len: usize,
+    dict_bytes: usize,
+    constraints: DictConstraints,
+    code: PhantomData<Code>,
+}
+
+impl<Code: CodeType> MayAdd for Room<Code> {
+    ghost allows = { λ s key. not (over_by Code.format s.constraints s.len s.dict_bytes
+        (bytes_or_null key)) };
+
+    #[inline(always)]
+    fn may_add(&self, key: Option<&[u8]>) -> bool {
+        !is_over::<Code>(self.len, self.dict_bytes, &self.constraints, key)
+    }
 }
 
 /// The count with a value that has got a place: it is new where it comes behind the others.
@@ -207,8 +236,13 @@ impl<Code: CodeType, H: KeyHash> BytesDictEncoder<Code, H> {
     {
         let len = self.lookup.len();
         let _size = self.lookup.byte_len();
-        let over = is_over::<Code>(len, self.dict_bytes, &self.constraints, key);
-        let Some(place) = self.lookup.find_or_add(key, !over)? else {
+        let room = Room::<Code> {
+            len,
+            dict_bytes: self.dict_bytes,
+            constraints: self.constraints,
+            code: PhantomData,
+        };
+        let Some(place) = self.lookup.find_or_add(key, &room)? else {
             return Ok(None);
         };
         self.dict_bytes = count_after(self.dict_bytes, count_of(key), place, len);

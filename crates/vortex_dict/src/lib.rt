@@ -25,7 +25,7 @@ pub use laws::{
 pub use native_value::NativeValue;
 pub use primitive::PrimitiveDictEncoder;
 pub use primitive_rows::PrimitiveRows;
-pub use vortex_codes::{BytesHash, CodeTable, DictError, KeyHash, Pieces};
+pub use vortex_codes::{BytesHash, CodeTable, DictError, KeyHash, MayAdd, Pieces};
 pub use widths::{DictCodes, bytes_code_type, least_code_type, primitive_code_type};
 
 #[cfg(test)]
