@@ -4,7 +4,6 @@ ghost use Rattle.std.specs.Prelude.{◌≡◌, ◌∷◌, [], None, Some, false,
 ghost use Rattle.vortex_terms.specs.Row.{null_row, whole_row, truth_row};
 ghost use Rattle.vortex_terms.specs.Term.{null, boolean, binary, list, fixed_size_list, utf8};
 ghost use Rattle.vortex_value.specs.declared.operator.Operator.TheVariants as operator;
-ghost use Rattle.vortex_node_rows.specs.declared.encoding.Encoding.TheVariants as encoding;
 ghost use Rattle.vortex_leaves.specs.Selected.{taken_rows};
 ghost use Rattle.vortex_array.specs.Compared.{compared_rows};
 ghost use Rattle.vortex_array.specs.ErrorNumber.{error_number};

@@ -1,6 +1,6 @@
 //! What metadata and numbers of times are, and in which order they are refused.
 
-ghost use Rattle.std.specs.Prelude.{◌≡◌, ◌∷◌, [], None, Ok, Err, Some, codes, pos};
+ghost use Rattle.std.specs.Prelude.{◌≡◌, ◌∷◌, [], None, Err, Some, codes, pos};
 ghost use Rattle.jiff.specs.Types.{Millisecond};
 ghost use Rattle.vortex_time.specs.ErrorNumber.{error_number};
 ghost use Rattle.vortex_time.specs.Metadata.{metadata_of};
