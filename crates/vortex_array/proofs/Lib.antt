@@ -6,8 +6,10 @@ pub mod Childless
 pub mod PickLaws
 pub mod PickPlaces
 pub mod Distinct
+pub mod ShownRows
 pub mod PickedParts
 pub mod PickedContents
+pub mod Holding
 pub mod PickedRows
 pub mod KeptAll
 pub mod ValidLists

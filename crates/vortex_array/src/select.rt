@@ -46,13 +46,14 @@ impl Array {
     }
 
     /// The rows at these places, in their order, each as often as it is named. Texts and lists are
-    /// joined without gaps. It is [`ArrayError::TooLarge`] where more than 4,294,967,295 places are
-    /// named, or where rows that are named more than once have more bytes or elements together.
+    /// joined without gaps, and those that are null hold nothing. It is [`ArrayError::TooLarge`]
+    /// only where more than 4,294,967,295 places are named, or where a place is named twice and more
+    /// rows or bytes than these stand in a part of the result.
     pub fn take(&self, alloc: Global, places: &[u32]) -> Result<Array, ArrayError>
         requires { AllByRecursion (λ place. place < length self.now.rows) places.now }
         ensures { MatchResult result
             (λ a. (a.dtype ≡ self.now.dtype) × (a.rows ≡ taken_rows places.now self.now.rows))
-            (RefusesTake places.now self.now.dtype) }
+            (RefusesTake places.now self.now.dtype self.now.rows) }
     {
         let array = pick(alloc, self, &Picks::Places(places))?;
         Ok(array)
