@@ -104,7 +104,7 @@ fixed_hold _ n v k es ps h m b fit much = absurd h
 
 -- ---- structs
 
-picked_columns : List ℕ → List Column → List (List Row)
+abbrev picked_columns : List ℕ → List Column → List (List Row)
 picked_columns ps cs = map (λ (c : Column). picked ps c.rows) cs
 
 columns_inside : (n : ℕ) (fs : Fields) (ps : List ℕ) (cs : List Column) → Below n ps → AreFields n fs cs

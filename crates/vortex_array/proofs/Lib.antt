@@ -31,3 +31,4 @@ pub mod ComparedLists
 pub mod Agreements
 pub mod PlainNodes
 pub mod ComparedNumbers
+pub mod WorkedTakes
