@@ -9,6 +9,7 @@ use Rattle.vortex_array.specs.ArrayNode.{array_node_count}
 use Rattle.vortex_array.specs.Column.{Column, Holds}
 use Rattle.vortex_array.specs.Content.{column_of, mask_nodes, IsMask}
 use Rattle.vortex_array.specs.declared.pick_rows.Picks.{Picks}
+use Rattle.vortex_array.specs.declared.pick_rows.Picks.TheVariants.{Places}
 use Rattle.vortex_array.specs.inner.Picked.{shown_places, ArePickedColumns, IsPickedColumn, IsPickedLists}
 use Rattle.vortex_array.specs.inner.PickedPlaces.{places_in, start_in, AnyMuch, ArePicks, ColumnMuch, RefusesPick}
 use Rattle.vortex_array.specs.inner.Spans.{spans}
@@ -16,6 +17,8 @@ use Rattle.vortex_array.proofs.PickedContents.{nulls_picked, truths_picked, numb
 use Rattle.vortex_array.proofs.PickedParts.{lists_joined, lists_range, lists_taken, offset_starts}
 use Rattle.vortex_array.proofs.PickedRows.{elements_much, elements_refused, err_is, fixed_refused, lists_much, lists_refused, many_much, picks_below, places_refused, range_cut, range_spans, range_within, spans_within, storage_refused, structs_refused, texts_refused}
 use Rattle.vortex_array.proofs.PlainNodes.{picked_plain}
+use Rattle.vortex_array.proofs.PickLaws.{Below}
+use Rattle.vortex_array.proofs.ShownRows.{below_shown}
 use Rattle.vortex_array.proofs.pick.+pick.Goals as goal
 
 pub pick-made-requires-clause-shape : goal.pick-made-requires-clause-shape
@@ -93,18 +96,18 @@ picked_content-returns-in_ok-texts-in-Texts t c =
 
 pub picked_content-picked_texts-requires : goal.picked_content-picked_texts-requires
 picked_content-picked_texts-requires t c =
-    let count = texts_count (term_of c.args.dtype.now) c.args.n c.in-Texts.texts (rw c.in-Texts.is at c.requires.shape) in (
-      subst (λ n. IsMask n true c.args.validity.now) (sym count) (nullable_mask c.args.n _ c.args.validity.now c.requires.mask),
-      subst (λ n. ArePicks n c.args.picks.now) (sym count) c.requires.picks,
-    )
+    let count = texts_count (term_of c.args.dtype.now) c.args.n c.in-Texts.texts (rw c.in-Texts.is at c.requires.shape) in
+    record {
+      mask = subst (λ n. IsMask n true c.args.validity.now) (sym count) (nullable_mask c.args.n _ c.args.validity.now c.requires.mask);
+      picks = subst (λ n. ArePicks n c.args.picks.now) (sym count) c.requires.picks;
+    }
 
 pub picked_content-picked_lists-requires : goal.picked_content-picked_lists-requires
 picked_content-picked_lists-requires t c = (
   omega (arith, rw c.in-Lists.is at c.decreases),
   (
     lists_shape (term_of c.args.dtype.now) c.args.n c.in-Lists.offsets c.in-Lists.elements (rw c.in-Lists.is at c.requires.shape),
-    nullable_mask c.args.n _ c.args.validity.now c.requires.mask,
-    c.requires.picks,
+    (nullable_mask c.args.n _ c.args.validity.now c.requires.mask, c.requires.picks),
   ),
 )
 
@@ -158,7 +161,7 @@ pick-picked_content-requires t c =
     let node : array_node_count (column_of c.array.inside).node ≡ array_node_count c.args.array.now.node =
     ap (λ (a : Column). array_node_count a.node) c.array.view_is in (
       omega (arith, lighter c.array.inside.len (mask_nodes c.array.inside.len c.array.inside.held.validity) c.array.inside.held.content, node, c.decreases),
-      (c.array.invariant.shape, c.array.invariant.mask, subst (λ n. ArePicks n c.args.picks.now) (rows_len c.array.inside c.args.array.now c.array.invariant c.array.view_is) c.requires),
+      (c.array.invariant.shape, (c.array.invariant.mask, subst (λ n. ArePicks n c.args.picks.now) (rows_len c.array.inside c.args.array.now c.array.invariant c.array.view_is) c.requires)),
     )
 
 pub picked_content-picked_fields-requires : goal.picked_content-picked_fields-requires
@@ -286,7 +289,9 @@ picked_lists-returns-in_ok-new-in-Mask t c =
 
 pub picked_lists-picked_elements-requires-in-Places : goal.picked_lists-picked_elements-requires-in-Places
 picked_lists-picked_elements-requires-in-Places t c =
-    let same : c.deref-in-Places-2.result.now ≡ c.args.elements.now.value = c.deref-in-Places-2.ensures in (
+    let same : c.deref-in-Places-2.result.now ≡ c.args.elements.now.value = c.deref-in-Places-2.ensures in
+    let shown : c.deref-in-Places-3.result.now ≡ shown_places c.args.validity.now c.in-Places.places.now =
+    c.deref-in-Places-3.ensures.value ∙ c.in_ok-shown-in-Places.ensures in (
       omega (arith, c.decreases, ap (λ (a : Column). array_node_count a.node) same),
       (
         record {
@@ -294,17 +299,29 @@ picked_lists-picked_elements-requires-in-Places t c =
               (subst (λ (a : Column). AreOffsets c.args.n (length a.rows) c.args.offsets.now) (sym same) c.requires.shape);
           rows = c.requires.shape.count;
         },
-        c.requires.picks,
+        subst (Below c.args.n) (sym shown)
+            (below_shown c.args.n c.args.validity.now c.in-Places.places.now (subst (ArePicks c.args.n) c.in-Places.is c.requires.picks)),
       ),
     )
 
 pub picked_lists-returns-in_ok-new-in-Places : goal.picked_lists-returns-in_ok-new-in-Places
 picked_lists-returns-in_ok-new-in-Places t c =
-    let shown : List ℕ = shown_places c.args.validity.now c.in-Places.places.now in
-    let cut : IsPickedColumn (spans (λ (i : ℕ). slice_index_or c.args.offsets.now i 0) shown) c.args.elements.now.value c.in_ok-new-in-Places.field-0.value = search rules in
+    let cut : IsPickedColumn (spans (λ (i : ℕ). slice_index_or c.args.offsets.now i 0) (shown_places c.args.validity.now c.in-Places.places.now)) c.args.elements.now.value c.in_ok-new-in-Places.field-0.value = search rules in
     let from : c.in-Some.joined ≡ joined_offsets (map (shown_size c.args.validity.now c.args.offsets.now) c.in-Places.places.now) = search rules in
-    subst (λ (p : Picks). IsPickedLists (places_in p) c.args.validity.now c.args.offsets.now c.args.elements.now.value _ c.in_ok-new-in-Places.field-0.value)
-    (sym c.in-Places.is)
-    (lists_taken c.args.n c.args.validity.now c.args.offsets.now c.in-Places.places.now _ c.args.elements.now.value
-    c.in_ok-new-in-Places.field-0.value c.requires.shape (subst (ArePicks c.args.n) c.in-Places.is c.requires.picks) c.requires.mask
-    (c.joined-in-Places.view_is ∙ from) cut)
+    lists_taken c.args.n c.args.validity.now c.args.offsets.now (places_in c.args.picks.now) _ c.args.elements.now.value
+    c.in_ok-new-in-Places.field-0.value c.requires.shape (picks_below c.args.n c.args.picks.now c.requires.picks) c.requires.mask
+    (c.joined-in-Places.view_is ∙ from
+    ∙ ap (λ (p : Picks). joined_offsets (map (shown_size c.args.validity.now c.args.offsets.now) (places_in p))) (sym c.in-Places.is))
+    (subst (λ (p : Picks). IsPickedColumn (spans (λ (i : ℕ). slice_index_or c.args.offsets.now i 0) (shown_places c.args.validity.now (places_in p))) c.args.elements.now.value c.in_ok-new-in-Places.field-0.value)
+    (sym c.in-Places.is) cut)
+
+pub picked_lists-returns-in_err-cut-in-Places : goal.picked_lists-returns-in_err-cut-in-Places
+picked_lists-returns-in_err-cut-in-Places t c =
+    let refused : RefusesPick (Places c.deref-in-Places-3.result) (λ ps. ColumnMuch c.args.elements.now.value (spans (λ (i : ℕ). slice_index_or c.args.offsets.now i 0) ps)) c.in_err-cut-in-Places.field-0.0 =
+    subst (λ (x : Column). RefusesPick (Places c.deref-in-Places-3.result) (λ ps. ColumnMuch x (spans (λ (i : ℕ). slice_index_or c.args.offsets.now i 0) ps)) c.in_err-cut-in-Places.field-0.0)
+    c.deref-in-Places-2.ensures c.in_err-cut-in-Places.ensures in
+    err_is c.from_residual-in_err-cut-in-Places.result _ _ c.in_err-cut-in-Places.field-0.0
+    c.from_residual-in_err-cut-in-Places.ensures.1
+    (elements_refused c.args.n c.args.validity.now c.args.offsets.now c.args.elements.now.value c.in-Places.places
+    c.deref-in-Places-3.result c.args.picks.now c.in_err-cut-in-Places.field-0.0 c.in-Places.is c.requires.picks
+    c.requires.shape c.requires.mask (c.deref-in-Places-3.ensures.value ∙ c.in_ok-shown-in-Places.ensures) refused)
