@@ -32,3 +32,4 @@ pub mod Agreements
 pub mod PlainNodes
 pub mod ComparedNumbers
 pub mod WorkedTakes
+pub mod TakenRows
