@@ -13,5 +13,5 @@ returns c = (
 
 pub returns-in_err-array : goal.returns-in_err-array
 returns-in_err-array c =
-    err_is c.from_residual-in_err-array.result _ _ c.in_err-array.field-0.0 c.from_residual-in_err-array.ensures.1
+    err_is c.from_residual.result _ _ c.in_err-array.field-0.0 c.from_residual.ensures.1
     (take_refused c.args.places c.args.self.now c.in_err-array.field-0.0 c.requires c.in_err-array.ensures)
