@@ -6,8 +6,10 @@ pub mod Childless
 pub mod PickLaws
 pub mod PickPlaces
 pub mod Distinct
+pub mod ShownRows
 pub mod PickedParts
 pub mod PickedContents
+pub mod Holding
 pub mod PickedRows
 pub mod KeptAll
 pub mod ValidLists
@@ -29,3 +31,5 @@ pub mod ComparedLists
 pub mod Agreements
 pub mod PlainNodes
 pub mod ComparedNumbers
+pub mod WorkedTakes
+pub mod TakenRows

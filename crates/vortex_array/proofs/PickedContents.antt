@@ -1,5 +1,5 @@
 -- What is picked of how rows are held is how the rows that are picked are held.
-use Rattle.std.proofs.Common.{◌≡◌, ◌≤◌, ◌<◌, ◌-◌, ◌*◌, ℕ, suc, List, [], ◌∷◌, Bool, Some, None, map, length, sym, ap, subst, ◌∙◌, arith, Vec, Global}
+use Rattle.std.proofs.Common.{◌≡◌, ◌≤◌, ◌<◌, ◌-◌, ◌*◌, ℕ, suc, List, [], ◌∷◌, Bool, true, Some, None, map, length, refl, sym, ap, subst, ◌∙◌, arith, Vec, Global}
 use Rattle.std.specs.declared.rc.Rc.{Rc}
 use Rattle.std.specs.Prelude.{if◌then◌else◌}
 use Rattle.std.specs.List.{AllByRecursion}
@@ -23,14 +23,21 @@ use Rattle.vortex_leaves.proofs.Rising.{length-first_chunks, length-pieces}
 use Rattle.vortex_array.specs.Column.{Column}
 use Rattle.vortex_array.specs.ArrayNode.{array_node_count, ArrayNode, ArrayNodes, no_array_nodes, array_nodes_count, array_nodes_before}
 use Rattle.vortex_array.specs.Content.{column_nodes, content_node, content_rows, column_rows, column_of, AreFields, is_maskable, IsMask, IsShaped, IsArray}
-use Rattle.vortex_array.specs.inner.Picked.{picked, IsPickedColumn, ArePickedColumns, IsPickedLists, IsPickedMask, IsPickedContent}
+use Rattle.vortex_array.specs.inner.Picked.{is_plain_content, picked, picked_validity, ArePickedBelow, ArePickedColumns, IsPickedColumn, IsPickedContent, IsPickedLists, IsPickedMask, IsPickedTexts}
 use Rattle.vortex_array.specs.inner.Spans.{spans, AreStarts}
 use Rattle.vortex_array.specs.declared.held.Content.{Content}
 use Rattle.vortex_array.specs.declared.held.Content.TheVariants.{Nulls, Truths, Numbers, Decimals, Texts, Lists, FixedLists, Structs, Storage, Constant}
 use Rattle.vortex_array.specs.declared.held.Array.TheInside.{Inside}
 use Rattle.vortex_array.proofs.PickLaws.{Below, picked-map, picked-zip, picked-replicate, length-picked, all_picked}
 use Rattle.vortex_array.proofs.PickedParts.{even_starts, even_picked}
+use Rattle.vortex_array.proofs.ShownRows.{below_mask, mask_is}
 use Rattle.vortex_array.proofs.PlainNodes.{child_plain, columns_plain}
+
+-- the rows at places, whatever is null
+pub record IsSameContent (t : Term) (ps : List ℕ) (n : ℕ) (old new : Content) : Type 0 where
+  pub shape : IsShaped new t (length ps)
+  pub rows : content_rows new t (length ps) ≡ picked ps (content_rows old t n)
+  pub canonical : is_plain_content old ≡ true → is_plain_content new ≡ true
 
 -- ---- leaves
 
@@ -38,12 +45,12 @@ copies_picked : (n : ℕ) (r : Row) (ps : List ℕ) → Below n ps → copies (l
 unfolding copies
 copies_picked n r ps b = sym (picked-replicate n r ps b)
 
-pub nulls_picked : (t : Term) (ps : List ℕ) (n : ℕ) → Below n ps → IsShaped Nulls t n → IsPickedContent t ps n Nulls Nulls
+pub nulls_picked : (t : Term) (ps : List ℕ) (n : ℕ) → Below n ps → IsShaped Nulls t n → IsSameContent t ps n Nulls Nulls
 nulls_picked null ps n b h = record { shape = tt; rows = copies_picked n null_row ps b; canonical = λ e. e }
 nulls_picked _ ps n b h = absurd h
 
 pub truths_picked : (t : Term) (ps : List ℕ) (n : ℕ) (m k : List Bool) → Below n ps → IsShaped (Truths m) t n → k ≡ picked ps m
-    → IsPickedContent t ps n (Truths m) (Truths k)
+    → IsSameContent t ps n (Truths m) (Truths k)
 truths_picked (boolean nl) ps n m k b h e =
     record { shape = ap length e ∙ length-picked ps m (subst (λ j. Below j ps) (sym h) b); rows = ap (map truth_row) e ∙ sym (picked-map truth_row ps m); canonical = λ e. e }
 truths_picked _ ps n m k b h e = absurd h
@@ -55,7 +62,7 @@ still_below : {A : Type 0} (ps : List ℕ) (n : ℕ) (xs : List A) → Below n p
 still_below ps n xs b e = subst (λ j. Below j ps) (sym e) b
 
 pub numbers_picked : (t : Term) (ps : List ℕ) (n : ℕ) (a b : NumberBytes) → Below n ps → IsShaped (Numbers a) t n
-    → AreNumbersOf a.format (picked ps (number_rows a)) b → IsPickedContent t ps n (Numbers a) (Numbers b)
+    → AreNumbersOf a.format (picked ps (number_rows a)) b → IsSameContent t ps n (Numbers a) (Numbers b)
 numbers_picked (primitive k nl) ps n a b w h e = record {
   shape = (e.format ∙ h.0, e.count ∙ length-picked ps (number_rows a) (still_below ps n (number_rows a) w (numbers_long a ∙ h.1)));
   rows = e.rows;
@@ -64,7 +71,7 @@ numbers_picked (primitive k nl) ps n a b w h e = record {
 numbers_picked _ ps n a b w h e = absurd h
 
 pub decimals_picked : (t : Term) (ps : List ℕ) (n : ℕ) (a b : NumberBytes) → Below n ps → IsShaped (Decimals a) t n
-    → AreNumbersOf a.format (picked ps (number_rows a)) b → IsPickedContent t ps n (Decimals a) (Decimals b)
+    → AreNumbersOf a.format (picked ps (number_rows a)) b → IsSameContent t ps n (Decimals a) (Decimals b)
 decimals_picked (decimal p s nl) ps n a b w h e = record {
   shape = e.count ∙ length-picked ps (number_rows a) (still_below ps n (number_rows a) w (numbers_long a ∙ h));
   rows = e.rows;
@@ -94,24 +101,14 @@ pub lists_count : (t : Term) (n : ℕ) (os : List ℕ) (es : Rc Column Global) �
 lists_count (list t nl) n os es h = h.1.count
 lists_count _ n os es h = absurd h
 
-texts_same : (ps : List ℕ) (n : ℕ) (a b : TextBytes) → Below n ps → length (text_pieces a) ≡ n
-    → text_pieces b ≡ picked ps (text_pieces a)
-    → (length (text_pieces b) ≡ length ps) × (map bytes_row (text_pieces b) ≡ picked ps (map bytes_row (text_pieces a)))
-texts_same ps n a b w h e = (
-  ap length e ∙ length-picked ps (text_pieces a) (still_below ps n (text_pieces a) w h),
-  ap (map bytes_row) e ∙ sym (picked-map bytes_row ps (text_pieces a)),
-)
-
-pub texts_picked : (t : Term) (ps : List ℕ) (n : ℕ) (a b : TextBytes) → Below n ps → IsShaped (Texts a) t n
-    → text_pieces b ≡ picked ps (text_pieces a) → IsPickedContent t ps n (Texts a) (Texts b)
-texts_picked (utf8 nl) ps n a b w h e =
-    let p = texts_same ps n a b w h e in record { shape = p.0; rows = p.1; canonical = λ k. k }
-texts_picked (binary nl) ps n a b w h e =
-    let p = texts_same ps n a b w h e in record { shape = p.0; rows = p.1; canonical = λ k. k }
-texts_picked _ ps n a b w h e = absurd h
+pub texts_picked : (t : Term) (ps : List ℕ) (n : ℕ) (v : Validity) (a b : TextBytes) → IsShaped (Texts a) t n
+    → IsPickedTexts ps v a b → IsPickedContent t ps n v (Texts a) (Texts b)
+texts_picked (utf8 nl) ps n v a b h e = record { shape = e.count; rows = e.same; canonical = λ k. k }
+texts_picked (binary nl) ps n v a b h e = record { shape = e.count; rows = e.same; canonical = λ k. k }
+texts_picked _ ps n v a b h e = absurd h
 
 pub constant_picked : (t : Term) (ps : List ℕ) (n : ℕ) (v w : ValueTerm) → Below n ps → IsShaped (Constant v) t n → w ≡ v
-    → IsPickedContent t ps n (Constant v) (Constant w)
+    → IsSameContent t ps n (Constant v) (Constant w)
 constant_picked t ps n v w b h e =
     rw e (record { shape = constant_shaped t n (length ps) v h; rows = copies_picked n (row_under t v) ps b; canonical = λ k. k })
   where
@@ -125,16 +122,14 @@ pub lists_shape : (t : Term) (n : ℕ) (os : List ℕ) (es : Rc Column Global) �
 lists_shape (list t nl) n os es h = h.1
 lists_shape _ n os es h = absurd h
 
-pub lists_picked : (t : Term) (ps : List ℕ) (n : ℕ) (os new : List ℕ) (es fs : Rc Column Global) → IsShaped (Lists os es) t n
-    → IsPickedLists ps os es.value new fs.value → IsPickedContent t ps n (Lists os es) (Lists new fs)
-lists_picked (list t nl) ps n os new es fs h p =
-    let g : List Row → Row = λ rs. list_row (rows_from rs) in
-    record {
-      shape = (p.dtype ∙ h.0, p.shape);
-      rows = ap (map g) p.same ∙ sym (picked-map g ps (pieces os es.value.rows));
-      canonical = child_plain _ _ p.canonical;
-    }
-lists_picked _ ps n os new es fs h p = absurd h
+pub lists_picked : (t : Term) (ps : List ℕ) (n : ℕ) (v : Validity) (os new : List ℕ) (es fs : Rc Column Global) → IsShaped (Lists os es) t n
+    → IsPickedLists ps v os es.value new fs.value → IsPickedContent t ps n v (Lists os es) (Lists new fs)
+lists_picked (list t nl) ps n v os new es fs h p = record {
+  shape = (p.dtype ∙ h.0, p.shape);
+  rows = p.same;
+  canonical = child_plain _ _ p.canonical;
+}
+lists_picked _ ps n v os new es fs h p = absurd h
 
 pub fixed_parts : (t : Term) (n k : ℕ) (es : Rc Column Global) → IsShaped (FixedLists k es) t n
     → AreStarts (λ i. i * k) n (length es.value.rows)
@@ -144,7 +139,7 @@ fixed_parts (fixed_size_list t j nl) n k es h =
 fixed_parts _ n k es h = absurd h
 
 pub fixed_picked : (t : Term) (ps : List ℕ) (n k : ℕ) (es fs : Rc Column Global) → Below n ps → IsShaped (FixedLists k es) t n
-    → IsPickedColumn (spans (λ i. i * k) ps) es.value fs.value → IsPickedContent t ps n (FixedLists k es) (FixedLists k fs)
+    → IsPickedColumn (spans (λ i. i * k) ps) es.value fs.value → IsSameContent t ps n (FixedLists k es) (FixedLists k fs)
 fixed_picked (fixed_size_list t j nl) ps n k es fs b h p =
     let g : List Row → Row = λ rs. list_row (rows_from rs) in
     let long : length es.value.rows ≡ n * k = h.1.1 ∙ ap (λ i. n * i) (sym h.0) in
@@ -159,7 +154,7 @@ fixed_picked _ ps n k es fs b h p = absurd h
 -- ---- extensions
 
 pub storage_picked : (t : Term) (ps : List ℕ) (n : ℕ) (es fs : Rc Column Global) → Below n ps → IsShaped (Storage es) t n
-    → IsPickedColumn ps es.value fs.value → IsPickedContent t ps n (Storage es) (Storage fs)
+    → IsPickedColumn ps es.value fs.value → IsSameContent t ps n (Storage es) (Storage fs)
 storage_picked (extension id t x) ps n es fs b h p = record {
   shape = (p.dtype ∙ h.0, ap length p.rows ∙ length-picked ps es.value.rows (subst (λ j. Below j ps) (sym h.1) b));
   rows = p.rows;
@@ -173,7 +168,7 @@ storage_count _ n es h = absurd h
 
 -- ---- structs
 
-length-inside : (n : ℕ) (fs : Fields) (cs : List Column) → AreFields n fs cs → length (inside_structs n (column_rows cs)) ≡ n
+pub length-inside : (n : ℕ) (fs : Fields) (cs : List Column) → AreFields n fs cs → length (inside_structs n (column_rows cs)) ≡ n
 length-inside n no_fields [] h = length-replicate n no_rows
 length-inside n no_fields (c ∷ cs) h = absurd h
 length-inside n (field x t fs) [] h = absurd h
@@ -206,7 +201,7 @@ inside_picked n fs ps [] (d ∷ ds) b h p = absurd p
 inside_picked n fs ps (c ∷ cs) [] b h p = absurd p
 
 pub structs_picked : (t : Term) (ps : List ℕ) (n : ℕ) (v w : Vec Column Global) → Below n ps → IsShaped (Structs v) t n
-    → ArePickedColumns ps v.items w.items → IsPickedContent t ps n (Structs v) (Structs w)
+    → ArePickedColumns ps v.items w.items → IsSameContent t ps n (Structs v) (Structs w)
 structs_picked (structure fs nl) ps n v w b h p = record {
   shape = fields_picked n fs ps v.items w.items b h p;
   rows = ap (map list_row) (inside_picked n fs ps v.items w.items b h p) ∙ sym (picked-map list_row ps (inside_structs n (column_rows v.items)));
@@ -248,14 +243,25 @@ length-content t n c h = length_by t n c h
     length_by t n (Constant v) h = length-copies n (row_under t v)
     length_by _ n _ h = absurd h
 
-masked_picked : (n : ℕ) (nl : Bool) (ps : List ℕ) (m k : Validity) (old new : List Row) → IsMask n nl m → length old ≡ n
-    → IsPickedMask ps m k → new ≡ picked ps old → masked k new ≡ picked ps (masked m old)
-masked_picked n nl ps None None old new h l p e = e
-masked_picked n nl ps (Some m) (Some k) old new h l p e =
-    let f : Bool → Row → Row = λ b r. if b then r else null_row in
-    ap (λ (x : List Bool). zip_map f x new) p ∙ ap (zip_map f (picked ps m)) e ∙ sym (picked-zip f ps m old (h.0 ∙ sym l))
-masked_picked n nl ps None (Some k) old new h l p e = absurd p
-masked_picked n nl ps (Some m) None old new h l p e = absurd p
+pub under_mask : (t : Term) (ps : List ℕ) (n : ℕ) (v : Validity) (old new : Content) → IsShaped old t n → IsMask n (is_maskable t) v
+    → IsSameContent t ps n old new → IsPickedContent t ps n v old new
+under_mask t ps n v old new h m p = record {
+  shape = p.shape;
+  rows = below_mask n (is_maskable t) ps v (content_rows old t n) (content_rows new t (length ps)) m (length-content t n old h) p.rows;
+  canonical = p.canonical;
+}
+
+pub texts_under : (n : ℕ) (nl : Bool) (ps : List ℕ) (v : Validity) (a b : TextBytes) → IsMask n nl v → Below n ps → length (text_pieces a) ≡ n
+    → text_pieces b ≡ picked ps (text_pieces a) → IsPickedTexts ps v a b
+texts_under n nl ps v a b m w h e = record {
+  count = ap length e ∙ length-picked ps (text_pieces a) (still_below ps n (text_pieces a) w h);
+  same = below_mask n nl ps v (map bytes_row (text_pieces a)) (map bytes_row (text_pieces b)) m (length-map _ _ ∙ h)
+      (ap (map bytes_row) e ∙ sym (picked-map bytes_row ps (text_pieces a)));
+}
+
+pub nullable_mask : (n : ℕ) (nl : Bool) (v : Validity) → IsMask n nl v → IsMask n true v
+nullable_mask n nl None h = tt
+nullable_mask n nl (Some m) h = (h.0, refl)
 
 pub mask_picked : (n : ℕ) (nl : Bool) (ps : List ℕ) (m k : Validity) → IsMask n nl m → Below n ps → IsPickedMask ps m k
     → IsMask (length ps) nl k
@@ -265,12 +271,11 @@ mask_picked n nl ps None (Some k) h b p = absurd p
 mask_picked n nl ps (Some m) None h b p = absurd p
 
 -- the rows of the parts that are picked are the rows that are picked
-pub picked_rows : (a : Inside) (ps : List ℕ) (k : Validity) (c : Content) → IsArray a → IsPickedMask ps a.held.validity k
-    → IsPickedContent (term_of a.dtype) ps a.len a.held.content c
+pub picked_rows : (a : Inside) (ps : List ℕ) (k : Validity) (c : Content) → IsPickedMask ps a.held.validity k
+    → IsPickedContent (term_of a.dtype) ps a.len a.held.validity a.held.content c
     → masked k (content_rows c (term_of a.dtype) (length ps)) ≡ picked ps (column_of a).rows
-picked_rows a ps k c h p q =
-    masked_picked a.len (is_maskable (term_of a.dtype)) ps a.held.validity k (content_rows a.held.content (term_of a.dtype) a.len)
-    (content_rows c (term_of a.dtype) (length ps)) h.mask (length-content (term_of a.dtype) a.len a.held.content h.shape) p q.rows
+picked_rows a ps k c p q =
+    ap (λ (k : Validity). masked k (content_rows c (term_of a.dtype) (length ps))) (mask_is ps a.held.validity k p) ∙ q.rows
 
 -- ---- the array of what is picked
 
@@ -282,12 +287,12 @@ pub record IsMade (ps : List ℕ) (x : Column) (t : Term) (n : ℕ) (k : Validit
   pub fit : AllByRecursion (Fits t) (masked k (content_rows c t n))
 
 made_by : (a : Inside) (ps : List ℕ) (k : Validity) (c : Content) → IsArray a → Below a.len ps
-    → IsPickedMask ps a.held.validity k → IsPickedContent (term_of a.dtype) ps a.len a.held.content c
+    → IsPickedMask ps a.held.validity k → IsPickedContent (term_of a.dtype) ps a.len a.held.validity a.held.content c
     → IsMade ps (column_of a) (term_of a.dtype) (length ps) k c
 made_by a ps k c h b p q =
     let t = term_of a.dtype in
     let rs = (column_of a).rows in
-    let same : masked k (content_rows c t (length ps)) ≡ picked ps rs = picked_rows a ps k c h p q in
+    let same : masked k (content_rows c t (length ps)) ≡ picked ps rs = picked_rows a ps k c p q in
     let below : Below (length rs) ps = subst (λ n. Below n ps) h.count b in
     record {
       shape = q.shape;
@@ -300,7 +305,7 @@ made_by a ps k c h b p q =
 -- where x is what the array is seen as, and t a copy of its type
 pub made_of : (a : Inside) (x : Column) (ps : List ℕ) (t : Term) (n : ℕ) (k : Validity) (c : Content) → IsArray a
     → column_of a ≡ x → Below (length x.rows) ps → t ≡ term_of a.dtype → n ≡ length ps
-    → IsPickedMask ps a.held.validity k → IsPickedContent (term_of a.dtype) ps a.len a.held.content c
+    → IsPickedMask ps a.held.validity k → IsPickedContent (term_of a.dtype) ps a.len a.held.validity a.held.content c
     → IsMade ps x t n k c
 made_of a x ps t n k c h v b e l p q =
     let below : Below a.len ps = subst (λ n. Below n ps) (sym (h.count ∙ ap (λ (x : Column). length x.rows) v)) b in

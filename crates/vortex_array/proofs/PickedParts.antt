@@ -1,23 +1,27 @@
 -- What is in the rows that are picked: pieces between offsets, and pieces of one length.
-use Rattle.std.proofs.Common.{◌≡◌, ◌≤◌, ◌<◌, ◌+◌, ◌-◌, ◌*◌, ℕ, zero, suc, List, [], ◌∷◌, ◌++◌, true, map, length, take, drop, get_or, refl, sym, ap, subst, ◌∙◌, arith, length-append, mul-le-mul_right}
+use Rattle.std.proofs.Common.{◌≡◌, ◌≤◌, ◌<◌, ◌+◌, ◌-◌, ◌*◌, ℕ, zero, suc, List, [], ◌∷◌, ◌++◌, Bool, true, map, length, take, drop, get_or, refl, sym, ap, subst, ◌∙◌, arith, length-append, mul-le-mul_right}
 use Rattle.std.specs.Prelude.{slice_range}
 use Rattle.std.specs.List.{AllByRecursion, flat_map}
-use Rattle.std.proofs.lemmas.List.{length-take, length-drop, take_at, drop_at, drop-drop}
+use Rattle.std.proofs.lemmas.List.{length-map, length-take, length-drop, take_at, drop_at, drop-drop}
 use Rattle.vortex_terms.specs.Row.{Row}
-use Rattle.vortex_terms.specs.FromColumns.{pieces}
+use Rattle.vortex_terms.specs.FromColumns.{list_rows, masked, pieces}
+use Rattle.vortex_terms.specs.Parts.{inner_rows}
 use Rattle.vortex_node_rows.specs.Buffers.{rises_from}
 use Rattle.vortex_node_rows.specs.Pieces.{chunks}
+use Rattle.vortex_node_rows.specs.RowsOf.{Validity}
 use Rattle.vortex_node_rows.proofs.Lists.{length-chunks}
 use Rattle.vortex_leaves.specs.Texts.{AreOffsets}
-use Rattle.vortex_leaves.specs.Selected.{joined_offsets, size_at}
+use Rattle.vortex_leaves.specs.Selected.{joined_offsets, shown_size, size_at, taken_pieces}
 use Rattle.vortex_leaves.proofs.Rising.{step, length-pieces}
 use Rattle.vortex_leaves.proofs.Pieces.{pieces_range, offsets_range}
-use Rattle.vortex_leaves.proofs.Joined.{joined_are_offsets, length-joined, offset_last, piece_size, pieces_get, pieces_joined}
+use Rattle.vortex_leaves.proofs.Joined.{joined_are_offsets, length-joined, offset_last, piece_size, pieces_get, pieces_joined, sizes_taken}
 use Rattle.vortex_array.specs.Column.{Column}
-use Rattle.vortex_array.specs.inner.Picked.{picked, from_on, IsPickedColumn, IsPickedLists}
+use Rattle.vortex_array.specs.Content.{IsMask}
+use Rattle.vortex_array.specs.inner.Picked.{picked, from_on, shown_places, IsPickedColumn, IsPickedLists}
 use Rattle.vortex_array.specs.inner.Spans.{spans, AreStarts}
-use Rattle.vortex_array.proofs.PickLaws.{Below, all_picked, length-from_on, length-picked, picked_range}
+use Rattle.vortex_array.proofs.PickLaws.{Below, all_picked, length-from_on, length-picked, picked-map, picked_range}
 use Rattle.vortex_array.proofs.PickPlaces.{at_onto-get, picked-spans}
+use Rattle.vortex_array.proofs.ShownRows.{below_mask, below_shown, inner_picked, joined_shown, list_of, taken_below}
 
 -- ---- between offsets
 
@@ -49,39 +53,80 @@ sizes_picked {A = A} n os (p ∷ ps) xs h b =
     ∙ ap (λ (j : ℕ). j ∷ map length (picked ps (pieces os xs))) (sym (piece_size os xs p h.rise h.within (omega (arith, h.count, b.0))))
     ∙ sym (ap (map (λ (l : List A). length l)) (at_onto-get (pieces os xs) p [] (picked ps (pieces os xs)) (omega (arith, many, b.0))))
 
--- lists whose offsets and elements are joined
-pub lists_joined : (n : ℕ) (os ps new : List ℕ) (old es : Column) → AreOffsets n (length old.rows) os → Below n ps
-    → new ≡ joined_offsets (map (size_at os) ps) → IsPickedColumn (spans (λ i. get_or os i 0) ps) old es
-    → IsPickedLists ps os old new es
-lists_joined n os ps new old es h b e p =
+-- lists whose offsets and elements are joined, ws being what is in each
+joined_shape : (os new : List ℕ) (ws : List (List Row)) (old es : Column) (k : ℕ) → new ≡ joined_offsets (map length ws)
+    → es.rows ≡ flat_map (λ w. w) ws → length ws ≡ k → AreOffsets k (length es.rows) new × (pieces new es.rows ≡ ws)
+joined_shape os new ws old es k from all long =
+    let many : length (map (λ (l : List Row). length l) ws) ≡ k = length-map _ _ ∙ long in
+    let shape : AreOffsets (length (map (λ (l : List Row). length l) ws)) (length es.rows) new =
+    rw from (joined_are_offsets (map length ws) (length es.rows) (omega (arith, ap length all, length-joined ws))) in (
+      subst (λ j. AreOffsets j (length es.rows) new) many shape,
+      ap (λ l. pieces l es.rows) from ∙ ap (pieces (joined_offsets (map length ws))) all ∙ pieces_joined ws,
+    )
+
+-- what is in lists at places
+spans_pieces : (n : ℕ) (os ps : List ℕ) (old : List Row) → AreOffsets n (length old) os → Below n ps
+    → picked (spans (λ i. get_or os i 0) ps) old ≡ flat_map (λ w. w) (picked ps (pieces os old))
+spans_pieces n os ps old h b =
+    let many : length (pieces os old) ≡ n = length-pieces n os old h.count in
+    picked-spans (λ i. get_or os i 0) ps old (pieces os old)
+    (subst (λ j. AreStarts (λ i. get_or os i 0) j (length old)) (sym many) (offset_starts n (length old) os h))
+    (λ q l. pieces_get os old q (omega (arith, h.count, many, l))) (subst (λ j. Below j ps) (sym many) b)
+
+pub lists_joined : (n : ℕ) (nl : Bool) (v : Validity) (os ps new : List ℕ) (old es : Column) → AreOffsets n (length old.rows) os → Below n ps
+    → IsMask n nl v → new ≡ joined_offsets (map (size_at os) ps) → IsPickedColumn (spans (λ i. get_or os i 0) ps) old es
+    → IsPickedLists ps v os old new es
+lists_joined n nl v os ps new old es h b m e p =
     let qs : List (List Row) = pieces os old.rows in
     let ws : List (List Row) = picked ps qs in
     let many : length qs ≡ n = length-pieces n os old.rows h.count in
-    let below : Below (length qs) ps = subst (λ j. Below j ps) (sym many) b in
-    let starts : AreStarts (λ i. get_or os i 0) (length qs) (length old.rows) =
-    subst (λ j. AreStarts (λ i. get_or os i 0) j (length old.rows)) (sym many) (offset_starts n (length old.rows) os h) in
-    let all : es.rows ≡ flat_map (λ w. w) ws =
-    p.rows ∙ picked-spans (λ i. get_or os i 0) ps old.rows qs starts
-    (λ q l. pieces_get os old.rows q (omega (arith, h.count, many, l))) below in
-    let from : new ≡ joined_offsets (map length ws) = e ∙ ap joined_offsets (sizes_picked n os ps old.rows h b) in
-    let long : length (map (λ (l : List Row). length l) ws) ≡ length ps = length_mapped ws ∙ length-picked ps qs below in
-    let shape : AreOffsets (length (map (λ (l : List Row). length l) ws)) (length es.rows) new =
-    rw from (joined_are_offsets (map length ws) (length es.rows) (omega (arith, ap length all, length-joined ws))) in
+    let made = joined_shape os new ws old es (length ps) (e ∙ ap joined_offsets (sizes_picked n os ps old.rows h b))
+    (p.rows ∙ spans_pieces n os ps old.rows h b) (length-picked ps qs (subst (λ j. Below j ps) (sym many) b)) in
     record {
-      shape = subst (λ j. AreOffsets j (length es.rows) new) long shape;
-      same = ap (λ l. pieces l es.rows) from ∙ ap (pieces (joined_offsets (map length ws))) all ∙ pieces_joined ws;
+      shape = made.0;
+      same = below_mask n nl ps v (list_rows os old.rows) (list_rows new es.rows) m (length-map _ _ ∙ many)
+          (ap (map list_of) made.1 ∙ sym (picked-map list_of ps qs));
       dtype = p.dtype;
       canonical = p.canonical;
     }
-  where
-    length_mapped : (ws : List (List Row)) → length (map (λ (l : List Row). length l) ws) ≡ length ws
-    length_mapped [] = refl
-    length_mapped (w ∷ ws) = ap suc (length_mapped ws)
+
+all_suc : (n k : ℕ) (ps : List ℕ) → k ≡ suc n → Below n ps → AllByRecursion (λ p. suc p < k) ps
+all_suc n k [] e b = tt
+all_suc n k (p ∷ ps) e b = (omega (arith, e, b.0), all_suc n k ps e b.1)
+
+-- the same at places, where a list that is hidden has no elements
+pub lists_taken : (n : ℕ) (v : Validity) (os ps new : List ℕ) (old es : Column) → AreOffsets n (length old.rows) os → Below n ps
+    → IsMask n true v → new ≡ joined_offsets (map (shown_size v os) ps)
+    → IsPickedColumn (spans (λ i. get_or os i 0) (shown_places v ps)) old es → IsPickedLists ps v os old new es
+lists_taken n v os ps new old es h b m e p =
+    let qs : List (List Row) = pieces os old.rows in
+    let ws : List (List Row) = taken_pieces v ps qs in
+    let many : length qs ≡ n = length-pieces n os old.rows h.count in
+    let below : Below (length qs) ps = subst (λ j. Below j ps) (sym many) b in
+    let made = joined_shape os new ws old es (length ps)
+    (e ∙ ap joined_offsets (sym (sizes_taken v os old.rows ps h.rise h.within (all_suc n (length os) ps h.count b))))
+    (p.rows ∙ spans_pieces n os (shown_places v ps) old.rows h (below_shown n v ps b) ∙ sym (joined_shown v qs ps below))
+    (length-map _ _) in
+    record {
+      shape = made.0;
+      same = taken_below list_of true v qs (pieces new es.rows) ps (subst (λ j. IsMask j true v) (sym many) m) below made.1;
+      dtype = p.dtype;
+      canonical = p.canonical;
+    }
+
+-- the elements of lists at places
+pub inner_spans : (n : ℕ) (v : Validity) (os ps : List ℕ) (es : List Row) → AreOffsets n (length es) os → Below n ps → IsMask n true v
+    → flat_map inner_rows (picked ps (masked v (list_rows os es))) ≡ picked (spans (λ i. get_or os i 0) (shown_places v ps)) es
+inner_spans n v os ps es h b m =
+    let many : length (pieces os es) ≡ n = length-pieces n os es h.count in
+    inner_picked true v (pieces os es) ps (subst (λ j. IsMask j true v) (sym many) m) (subst (λ j. Below j ps) (sym many) b)
+    ∙ sym (spans_pieces n os (shown_places v ps) es h (below_shown n v ps b))
 
 -- a range of lists, whose elements stay
-pub lists_range : (n from to : ℕ) (os new : List ℕ) (old es : Column) → AreOffsets n (length old.rows) os → from ≤ to → to ≤ n
-    → new ≡ slice_range os from (suc to) → es ≡ old → IsPickedLists (from_on (to - from) from) os old new es
-lists_range n from to os new old es h le hi e same =
+pub lists_range : (n from to : ℕ) (nl : Bool) (v : Validity) (os new : List ℕ) (old es : Column) → AreOffsets n (length old.rows) os
+    → from ≤ to → to ≤ n → IsMask n nl v → new ≡ slice_range os from (suc to) → es ≡ old
+    → IsPickedLists (from_on (to - from) from) v os old new es
+lists_range n from to nl v os new old es h le hi m e same =
     let room : to < length os = omega (arith, h.count, hi) in
     let range = offsets_range from to (length old.rows) os new le room h.rise h.within e in
     let many : length (pieces os old.rows) ≡ n = length-pieces n os old.rows h.count in
@@ -90,7 +135,13 @@ lists_range n from to os new old es h le hi e same =
     ∙ sym (picked_range from to (pieces os old.rows) le (omega (arith, many, hi))) in
     let long : length new ≡ suc (length (from_on (to - from) from)) =
     ap length e ∙ length_range os from to le room ∙ ap suc (sym (length-from_on (to - from) from)) in
-    rw same (record { shape = record { count = long; rise = range.1; within = range.2 }; same = cut; dtype = refl; canonical = λ k. k })
+    rw same (record {
+      shape = record { count = long; rise = range.1; within = range.2 };
+      same = below_mask n nl (from_on (to - from) from) v (list_rows os old.rows) (list_rows new old.rows) m (length-map _ _ ∙ many)
+          (ap (map list_of) cut ∙ sym (picked-map list_of (from_on (to - from) from) (pieces os old.rows)));
+      dtype = refl;
+      canonical = λ k. k;
+    })
   where
     length_range : (os : List ℕ) (from to : ℕ) → from ≤ to → to < length os → length (slice_range os from (suc to)) ≡ suc (to - from)
     length_range os from to le room =

@@ -1,12 +1,14 @@
 -- What is picked of rows, by which rows are picked.
 use Rattle.std.proofs.Common.{◌≡◌, ◌≤◌, ◌<◌, ◌+◌, ◌-◌, ◌*◌, ◌^◌, inl, inr, ℕ, zero, suc, List, [], ◌∷◌, ◌++◌, Bool, true, false, Some, take, map, length, get_or, refl, sym, ap, subst, ◌∙◌, arith, length-append, Bor, Vec, Global}
-use Rattle.std.specs.Prelude.{slice_get, slice_range, nat_lt, ◌||◌, Result, Ok, Err, IsErrAnd, MatchResult}
+use Rattle.std.specs.Prelude.{slice_get, slice_range, nat_lt, Result, Ok, Err, IsErrAnd, MatchResult}
 use Rattle.std.specs.List.{All, flat_map, sum}
 use Rattle.std.proofs.lemmas.Bool.{ltb-true}
 use Rattle.std.proofs.lemmas.List.Elements.{All-from_get_or}
 use Rattle.std.proofs.lemmas.List.Sums.{sum_by-cons}
-use Rattle.vortex_terms.specs.Row.{null_row}
-use Rattle.vortex_node_rows.specs.RowsOf.{most_rows}
+use Rattle.vortex_terms.specs.Row.{null_row, bytes_row}
+use Rattle.vortex_terms.specs.Parts.{inner_rows}
+use Rattle.vortex_terms.specs.FromColumns.{list_rows, masked}
+use Rattle.vortex_node_rows.specs.RowsOf.{most_rows, Validity}
 use Rattle.vortex_mask.specs.Truths.{kept, places_from, places_of}
 use Rattle.vortex_leaves.specs.Numbers.{NumberBytes, number_rows}
 use Rattle.vortex_leaves.specs.Selected.{AreNumbersOf, taken_rows}
@@ -16,24 +18,28 @@ use Rattle.vortex_array.specs.declared.pick_rows.Picks.{Picks}
 use Rattle.vortex_array.specs.declared.pick_rows.Picks.TheVariants.{Range, Mask, Places}
 use Rattle.vortex_array.specs.declared.pick_parts.Parts.{Parts}
 use Rattle.vortex_array.specs.declared.pick_parts.Parts.TheVariants.{Even}
-use Rattle.vortex_array.specs.Column.{Column}
-use Rattle.vortex_terms.specs.Term.{Term, structure, Fields, no_fields, field}
-use Rattle.vortex_array.specs.Content.{AreFields, IsShaped}
-use Rattle.vortex_array.specs.declared.held.Content.TheVariants.{Structs}
-use Rattle.vortex_array.specs.Taken.{has_pieces, have_pieces, TakesMuch}
-use Rattle.vortex_array.specs.inner.Picked.{picked, from_on, IsPickedColumn}
-use Rattle.vortex_array.specs.inner.PickedPlaces.{any_pieces, places_in, start_in, ArePicks, PicksMuch, RefusesPick}
+use Rattle.vortex_array.specs.Column.{Column, Holds}
+use Rattle.vortex_terms.specs.Term.{Term}
+use Rattle.vortex_array.specs.Content.{is_maskable, IsMask, IsShaped}
+use Rattle.vortex_array.specs.declared.held.Content.{Content}
+use Rattle.vortex_array.specs.declared.held.Content.TheVariants.{Texts, Lists, FixedLists, Structs, Storage}
+use Rattle.std.specs.declared.rc.Rc.{Rc}
+use Rattle.vortex_array.specs.Taken.{HoldsMuch, MayPass}
+use Rattle.vortex_array.specs.inner.Picked.{picked, from_on, shown_places, IsPickedColumn, IsPickedTexts}
+use Rattle.vortex_array.specs.inner.PickedPlaces.{places_in, start_in, AnyMuch, ArePicks, ColumnMuch, ContentMuch, ListsMuch, PicksMuch, RefusesPick, TextsMuch}
 use Rattle.vortex_array.specs.inner.Spans.{spans, AreStarts}
-use Rattle.vortex_array.proofs.PickLaws.{Below, below_from_on, length-from_on, picked_range}
+use Rattle.vortex_array.proofs.PickLaws.{Below, below_from_on, length-from_on, length-picked, picked_range}
 use Rattle.vortex_array.proofs.PickPlaces.{below-spans, mask_below, picked-mask, picked-taken}
-use Rattle.vortex_array.proofs.PickedContents.{numbers_long}
-use Rattle.vortex_array.proofs.PickedParts.{offset_starts, sizes_picked}
+use Rattle.vortex_array.proofs.PickedContents.{numbers_long, texts_under}
+use Rattle.vortex_array.proofs.PickedParts.{inner_spans, offset_starts, sizes_picked}
+use Rattle.vortex_array.proofs.ShownRows.{below_shown, bytes_picked, joined_shown, repeats_shown, shown_passes, sizes_shown, taken_below}
+use Rattle.vortex_array.proofs.Holding.{fixed_hold, lists_hold, many_hold, storage_hold, structs_hold, texts_hold}
 use Rattle.vortex_array.proofs.Distinct.{much_repeats, spans_repeat}
-use Rattle.std.proofs.lemmas.List.{take_more, append-nil, append_assoc}
+use Rattle.std.proofs.lemmas.List.{length-map, take_more, append-nil, append_assoc}
 use Rattle.std.proofs.lemmas.Grind.{flat_map-append}
 use Rattle.std.proofs.lemmas.Option.{get_or_from_slice_get}
-use Rattle.vortex_leaves.specs.Texts.{AreTexts, TextBytes, text_pieces}
-use Rattle.vortex_leaves.specs.Selected.{size_at, taken_pieces}
+use Rattle.vortex_leaves.specs.Texts.{AreOffsets, AreTexts, TextBytes, text_pieces}
+use Rattle.vortex_leaves.specs.Selected.{shown_size, size_at, taken_pieces}
 use Rattle.vortex_leaves.proofs.Joined.{length-joined}
 
 -- ---- places
@@ -49,11 +55,12 @@ fewer_places (true ∷ m) i = omega (arith, fewer_places m (i + 1))
 fewer_places (false ∷ m) i = omega (arith, fewer_places m (i + 1))
 
 -- more than an array has rows are picked by places alone
-pub many_much : (n : ℕ) (picks : Picks) (b : Bool) → ArePicks n picks → n ≤ most_rows → most_rows < length (places_in picks)
-    → PicksMuch picks b
-many_much n (Range from to) b h few l = absurd (omega (arith, l, few, length-from_on (to - from) from, h.0, h.1))
-many_much n (Mask m) b h few l = absurd (omega (arith, l, few, fewer_places m.now 0, h))
-many_much n (Places ps) b h few l = inl l
+pub many_much : (c : Column) (picks : Picks) → ArePicks (length c.rows) picks → length c.rows ≤ most_rows
+    → most_rows < length (places_in picks) → PicksMuch picks (ColumnMuch c)
+many_much c (Range from to) h few l = absurd (omega (arith, l, few, length-from_on (to - from) from, h.0, h.1))
+many_much c (Mask m) h few l = absurd (omega (arith, l, few, fewer_places m.now 0, h))
+many_much c (Places ps) h few l =
+    (inl l, many_hold c.dtype (picked ps.now c.rows) (omega (arith, l, length-picked ps.now c.rows h)))
 
 all_below : (n : ℕ) (ps : List ℕ) → Below n ps → All (λ p. p < n) ps
 all_below n ps h = All-from_get_or (λ p. p < n) ps 0 (λ i l. at ps i h l)
@@ -110,47 +117,51 @@ places_numbers a b ps picks e h k =
 
 -- ---- refusals
 
-much_more : (picks : Picks) (b c : Bool) → (b ≡ true → c ≡ true) → PicksMuch picks b → PicksMuch picks c
-much_more (Range from to) b c k h = h
-much_more (Mask m) b c k h = h
-much_more (Places ps) b c k (inl l) = inl l
-much_more (Places ps) b c k (inr r) = inr (k r.0, r.1)
+much_more : (n : ℕ) (picks : Picks) (P Q : List ℕ → Type 0) → ArePicks n picks → ((ps : List ℕ) → Below n ps → P ps → Q ps)
+    → PicksMuch picks P → PicksMuch picks Q
+much_more n (Range from to) P Q a k h = h
+much_more n (Mask m) P Q a k h = h
+much_more n (Places ps) P Q a k h = (h.0, k ps.now a h.1)
 
-pub refused_more : (picks : Picks) (b c : Bool) (e : ArrayError) → (b ≡ true → c ≡ true) → RefusesPick picks b e → RefusesPick picks c e
-refused_more picks b c e k (inl h) = inl h
-refused_more picks b c e k (inr h) = inr (h.0, much_more picks b c k h.1)
+pub refused_more : (n : ℕ) (picks : Picks) (P Q : List ℕ → Type 0) (e : ArrayError) → ArePicks n picks
+    → ((ps : List ℕ) → Below n ps → P ps → Q ps) → RefusesPick picks P e → RefusesPick picks Q e
+refused_more n picks P Q e a k (inl h) = inl h
+refused_more n picks P Q e a k (inr h) = inr (h.0, much_more n picks P Q a k h.1)
 
 -- a range and a mask are refused for lack of memory alone
-pub range_refused : (from to : ℕ) (picks : Picks) (b c : Bool) (e : ArrayError) → RefusesPick (Range from to) b e → RefusesPick picks c e
-range_refused from to picks b c e (inl h) = inl h
-range_refused from to picks b c e (inr h) = absurd h.1
+pub range_refused : (from to : ℕ) (picks : Picks) (P Q : List ℕ → Type 0) (e : ArrayError) → RefusesPick (Range from to) P e → RefusesPick picks Q e
+range_refused from to picks P Q e (inl h) = inl h
+range_refused from to picks P Q e (inr h) = absurd h.1
 
-pub mask_refused : (m : Bor (List Bool)) (picks : Picks) (b c : Bool) (e : ArrayError) → RefusesPick (Mask m) b e → RefusesPick picks c e
-mask_refused m picks b c e (inl h) = inl h
-mask_refused m picks b c e (inr h) = absurd h.1
+pub mask_refused : (m : Bor (List Bool)) (picks : Picks) (P Q : List ℕ → Type 0) (e : ArrayError) → RefusesPick (Mask m) P e → RefusesPick picks Q e
+mask_refused m picks P Q e (inl h) = inl h
+mask_refused m picks P Q e (inr h) = absurd h.1
 
-pub range_memory : (from to : ℕ) (picks : Picks) (b : Bool) (e : ArrayError) → picks ≡ Range from to → RefusesPick picks b e → e ≡ OutOfMemory
-range_memory from to picks b e is h = by (subst (λ (p : Picks). RefusesPick p b e) is h)
-  where
-    by : RefusesPick (Range from to) b e → e ≡ OutOfMemory
-    by (inl k) = k
-    by (inr k) = absurd k.1
+moved : (p q : Picks) (P Q : List ℕ → Type 0) (e : ArrayError) → p ≡ q → RefusesPick p P e → (RefusesPick q P e → RefusesPick q Q e)
+    → RefusesPick p Q e
+moved p q P Q e is h k = subst (λ (p : Picks). RefusesPick p Q e) (sym is) (k (subst (λ (p : Picks). RefusesPick p P e) is h))
+
+pub same_mask_refused : (m : Bor (List Bool)) (picks : Picks) (P Q : List ℕ → Type 0) (e : ArrayError) → picks ≡ Mask m → RefusesPick picks P e
+    → RefusesPick picks Q e
+same_mask_refused m picks P Q e is h = moved picks (Mask m) P Q e is h (mask_refused m (Mask m) P Q e)
 
 -- ---- what is in rows
 
-spans_much : (start : ℕ → ℕ) (n end : ℕ) (ps : List ℕ) (b : Bool) → AreStarts start n end → Below n ps → end ≤ most_rows
-    → TakesMuch (spans start ps) b → TakesMuch ps true
-spans_much start n end ps b h k few (inl l) = inr (refl, much_repeats start n end ps h k (omega (arith, l, few)))
-spans_much start n end ps b h k few (inr r) = inr (refl, spans_repeat start n end ps h k r.1)
+spans_much : (start : ℕ → ℕ) (n end : ℕ) (ps : List ℕ) → AreStarts start n end → Below n ps → end ≤ most_rows
+    → MayPass (spans start ps) → MayPass ps
+spans_much start n end ps h k few (inl l) = inr (much_repeats start n end ps h k (omega (arith, l, few)))
+spans_much start n end ps h k few (inr r) = inr (spans_repeat start n end ps h k r)
 
-pub places_refused : (start : ℕ → ℕ) (n end : ℕ) (ps qs : Bor (List ℕ)) (picks : Picks) (b : Bool) (e : ArrayError) → picks ≡ Places ps
-    → ArePicks n picks → AreStarts start n end → end ≤ most_rows → qs.now ≡ spans start ps.now → RefusesPick (Places qs) b e
-    → RefusesPick picks true e
-places_refused start n end ps qs picks b e is h s few same (inl m) = inl m
-places_refused start n end ps qs picks b e is h s few same (inr m) = inr (
+pub places_refused : (start : ℕ → ℕ) (n : ℕ) (ps qs : Bor (List ℕ)) (picks : Picks) (c : Column) (e : ArrayError) → picks ≡ Places ps
+    → ArePicks n picks → AreStarts start n (length c.rows) → length c.rows ≤ most_rows → qs.now ≡ spans start ps.now
+    → RefusesPick (Places qs) (ColumnMuch c) e → RefusesPick picks (λ ps. ColumnMuch c (spans start ps)) e
+places_refused start n ps qs picks c e is h s few same (inl m) = inl m
+places_refused start n ps qs picks c e is h s few same (inr m) = inr (
   m.0,
-  subst (λ (p : Picks). PicksMuch p true) (sym is)
-      (spans_much start n end ps.now b s (subst (ArePicks n) is h) few (subst (λ l. TakesMuch l b) same m.1)),
+  subst (λ (p : Picks). PicksMuch p (λ ps. ColumnMuch c (spans start ps))) (sym is) (
+    spans_much start n (length c.rows) ps.now s (subst (ArePicks n) is h) few (subst MayPass same m.1.0),
+    subst (ColumnMuch c) same m.1.1,
+  ),
 )
 
 length-spans : (start : ℕ → ℕ) (ps : List ℕ) → length (spans start ps) ≡ sum (map (λ p. start (suc p) - start p) ps)
@@ -158,18 +169,58 @@ length-spans start [] = refl
 length-spans start (p ∷ ps) =
     omega (arith, length-append (from_on (start (suc p) - start p) (start p)) (spans start ps), length-from_on (start (suc p) - start p) (start p), length-spans start ps, sum_by-cons (λ x. x) (start (suc p) - start p) (map (λ p. start (suc p) - start p) ps))
 
-pub sizes_much : (start : ℕ → ℕ) (n end : ℕ) (ps : Bor (List ℕ)) (picks : Picks) → picks ≡ Places ps → ArePicks n picks
-    → AreStarts start n end → end ≤ most_rows → 2 ^ 32 ≤ sum (map (λ p. start (suc p) - start p) ps.now) → PicksMuch picks true
-sizes_much start n end ps picks is h s few l =
-    subst (λ (p : Picks). PicksMuch p true) (sym is)
-    (inr (refl, much_repeats start n end ps.now s (subst (ArePicks n) is h) (omega (arith, l, few, length-spans start ps.now))))
+-- where what is in the rows that are shown is more than there is, a place stands twice
+shown_much : (start : ℕ → ℕ) (n end : ℕ) (v : Validity) (ps : List ℕ) → AreStarts start n end → Below n ps
+    → end < sum (map (λ p. start (suc p) - start p) (shown_places v ps)) → MayPass ps
+shown_much start n end v ps s b l =
+    inr (repeats_shown v ps (much_repeats start n end (shown_places v ps) s (below_shown n v ps b) (omega (arith, l, length-spans start (shown_places v ps)))))
+
+-- lists at places that are too long together
+pub lists_much : (n : ℕ) (v : Validity) (os : List ℕ) (es : Column) (ps : Bor (List ℕ)) (picks : Picks) → picks ≡ Places ps → ArePicks n picks
+    → AreOffsets n (length es.rows) os → IsMask n true v → length es.rows ≤ most_rows → 2 ^ 32 ≤ sum (map (shown_size v os) ps.now)
+    → PicksMuch picks (ListsMuch v os es)
+lists_much n v os es ps picks is h o m few l =
+    let b : Below n ps.now = subst (ArePicks n) is h in
+    let start : ℕ → ℕ = λ i. get_or os i 0 in
+    let s : AreStarts start n (length es.rows) = offset_starts n (length es.rows) os o in
+    let sizes : sum (map (shown_size v os) ps.now) ≡ sum (map (size_at os) (shown_places v ps.now)) = sizes_shown v os ps.now in
+    let inside = inner_spans n v os ps.now es.rows o b m in
+    let long : length (picked (spans start (shown_places v ps.now)) es.rows) ≡ length (spans start (shown_places v ps.now)) =
+    length-picked (spans start (shown_places v ps.now)) es.rows (below-spans start n (length es.rows) (shown_places v ps.now) s (below_shown n v ps.now b)) in
+    subst (λ (p : Picks). PicksMuch p (ListsMuch v os es)) (sym is) (
+      shown_much start n (length es.rows) v ps.now s b (omega (arith, l, few, sizes)),
+      many_hold es.dtype (flat_map inner_rows (picked ps.now (masked v (list_rows os es.rows))))
+          (omega (arith, l, sizes, length-spans start (shown_places v ps.now), long, ap length inside)),
+    )
+
+-- elements at the places that are shown are refused
+pub elements_refused : (n : ℕ) (v : Validity) (os : List ℕ) (es : Column) (ps qs : Bor (List ℕ)) (picks : Picks) (e : ArrayError) → picks ≡ Places ps
+    → ArePicks n picks → AreOffsets n (length es.rows) os → IsMask n true v → qs.now ≡ shown_places v ps.now
+    → RefusesPick (Places qs) (λ ps. ColumnMuch es (spans (λ i. get_or os i 0) ps)) e → RefusesPick picks (ListsMuch v os es) e
+elements_refused n v os es ps qs picks e is h o m same (inl k) = inl k
+elements_refused n v os es ps qs picks e is h o m same (inr k) =
+    let b : Below n ps.now = subst (ArePicks n) is h in
+    inr (
+      k.0,
+      subst (λ (p : Picks). PicksMuch p (ListsMuch v os es)) (sym is) (
+        shown_passes v ps.now (subst MayPass same k.1.0),
+        subst (HoldsMuch es.dtype) (sym (inner_spans n v os ps.now es.rows o b m))
+            (subst (λ (qs : List ℕ). ColumnMuch es (spans (λ i. get_or os i 0) qs)) same k.1.1),
+      ),
+    )
 
 -- more elements than an array has are those of lists of which one is picked twice
-pub elements_much : (start : ℕ → ℕ) (n end : ℕ) (ps : Bor (List ℕ)) (picks : Picks) → picks ≡ Places ps → ArePicks n picks
-    → AreStarts start n end → end ≤ most_rows → most_rows < length (spans start ps.now) → PicksMuch picks true
-elements_much start n end ps picks is h s few l =
-    subst (λ (p : Picks). PicksMuch p true) (sym is)
-    (inr (refl, much_repeats start n end ps.now s (subst (ArePicks n) is h) (omega (arith, l, few))))
+pub elements_much : (start : ℕ → ℕ) (n : ℕ) (c : Column) (ps : Bor (List ℕ)) (picks : Picks) → picks ≡ Places ps → ArePicks n picks
+    → AreStarts start n (length c.rows) → length c.rows ≤ most_rows → most_rows < length (spans start ps.now)
+    → PicksMuch picks (λ ps. ColumnMuch c (spans start ps))
+elements_much start n c ps picks is h s few l =
+    let b : Below n ps.now = subst (ArePicks n) is h in
+    let long : length (picked (spans start ps.now) c.rows) ≡ length (spans start ps.now) =
+    length-picked (spans start ps.now) c.rows (below-spans start n (length c.rows) ps.now s b) in
+    subst (λ (p : Picks). PicksMuch p (λ ps. ColumnMuch c (spans start ps))) (sym is) (
+      inr (much_repeats start n (length c.rows) ps.now s b (omega (arith, l, few))),
+      many_hold c.dtype (picked (spans start ps.now) c.rows) (omega (arith, l, long)),
+    )
 
 -- so many elements in each list
 pub even_long : (k : ℕ) (ps : List ℕ) → length (spans (λ i. i * k) ps) ≡ length ps * k
@@ -236,34 +287,93 @@ places_spans start ps picks spread old new is e p =
 
 -- ---- fields
 
-pub first_pieces : (c : Column) (cs : List Column) → has_pieces c.dtype ≡ true → any_pieces (c ∷ cs) ≡ true
-first_pieces c cs h = rw h refl
+pub first_much : (n : ℕ) (c : Column) (cs all : List Column) (picks : Picks) (e : ArrayError) → ArePicks n picks → Holds c
+    → ((ps : List ℕ) → AnyMuch (c ∷ cs) ps → AnyMuch all ps) → RefusesPick picks (ColumnMuch c) e → RefusesPick picks (AnyMuch all) e
+first_much n c cs all picks e a h k r =
+    refused_more n picks (ColumnMuch c) (AnyMuch all) e a (λ ps b m. k ps (inl (h.fit, m))) r
 
-pub other_pieces : (c : Column) (cs : List Column) → any_pieces cs ≡ true → any_pieces (c ∷ cs) ≡ true
-other_pieces c cs h = by (has_pieces c.dtype) (any_pieces cs) h
-  where
-    by : (a b : Bool) → b ≡ true → (a || b) ≡ true
-    by true b e = refl
-    by false b e = e
+-- ---- how rows are held
+
+pub texts_refused : (t : Term) (n : ℕ) (v : Validity) (c : Content) (a : TextBytes) (picks : Picks) (e : ArrayError) → c ≡ Texts a → IsShaped c t n
+    → ArePicks n picks → RefusesPick picks (TextsMuch v a) e → RefusesPick picks (ContentMuch t n v c) e
+texts_refused t n v c a picks e is h k r =
+    subst (λ (c : Content). RefusesPick picks (ContentMuch t n v c) e) (sym is)
+    (refused_more n picks (TextsMuch v a) (ContentMuch t n v (Texts a)) e k (λ ps b m. texts_hold t n v a ps (subst (λ (c : Content). IsShaped c t n) is h) m) r)
+
+pub lists_refused : (t : Term) (n : ℕ) (v : Validity) (c : Content) (os : List ℕ) (es : Rc Column Global) (picks : Picks) (e : ArrayError) → c ≡ Lists os es
+    → IsShaped c t n → ArePicks n picks → RefusesPick picks (ListsMuch v os es.value) e → RefusesPick picks (ContentMuch t n v c) e
+lists_refused t n v c os es picks e is h k r =
+    subst (λ (c : Content). RefusesPick picks (ContentMuch t n v c) e) (sym is)
+    (refused_more n picks (ListsMuch v os es.value) (ContentMuch t n v (Lists os es)) e k (λ ps b m. lists_hold t n v os es ps (subst (λ (c : Content). IsShaped c t n) is h) m) r)
+
+pub fixed_refused : (t : Term) (n : ℕ) (v : Validity) (c : Content) (k : ℕ) (es : Rc Column Global) (picks : Picks) (e : ArrayError) → c ≡ FixedLists k es
+    → IsShaped c t n → IsMask n (is_maskable t) v → ArePicks n picks → Holds es.value
+    → RefusesPick picks (λ ps. ColumnMuch es.value (spans (λ i. i * k) ps)) e → RefusesPick picks (ContentMuch t n v c) e
+fixed_refused t n v c k es picks e is h m a fit r =
+    subst (λ (c : Content). RefusesPick picks (ContentMuch t n v c) e) (sym is)
+    (refused_more n picks (λ ps. ColumnMuch es.value (spans (λ i. i * k) ps)) (ContentMuch t n v (FixedLists k es)) e a
+    (λ ps b much. fixed_hold t n v k es ps (subst (λ (c : Content). IsShaped c t n) is h) m b fit.fit much) r)
+
+pub structs_refused : (t : Term) (n : ℕ) (v : Validity) (c : Content) (w : Vec Column Global) (picks : Picks) (e : ArrayError) → c ≡ Structs w
+    → IsShaped c t n → IsMask n (is_maskable t) v → ArePicks n picks → RefusesPick picks (AnyMuch w.items) e → RefusesPick picks (ContentMuch t n v c) e
+structs_refused t n v c w picks e is h m a r =
+    subst (λ (c : Content). RefusesPick picks (ContentMuch t n v c) e) (sym is)
+    (refused_more n picks (AnyMuch w.items) (ContentMuch t n v (Structs w)) e a
+    (λ ps b much. structs_hold t n v w ps (subst (λ (c : Content). IsShaped c t n) is h) m b much) r)
+
+pub storage_refused : (t : Term) (n : ℕ) (v : Validity) (c : Content) (es : Rc Column Global) (picks : Picks) (e : ArrayError) → c ≡ Storage es
+    → IsShaped c t n → IsMask n (is_maskable t) v → ArePicks n picks → RefusesPick picks (ColumnMuch es.value) e → RefusesPick picks (ContentMuch t n v c) e
+storage_refused t n v c es picks e is h m a r =
+    subst (λ (c : Content). RefusesPick picks (ContentMuch t n v c) e) (sym is)
+    (refused_more n picks (ColumnMuch es.value) (ContentMuch t n v (Storage es)) e a
+    (λ ps b much. storage_hold t n v es ps (subst (λ (c : Content). IsShaped c t n) is h) m much) r)
 
 -- ---- texts
 
 -- where the pieces at places are longer together than 32 bits tell, a place stands twice
-pub texts_much : (a : TextBytes) (ps : Bor (List ℕ)) (picks : Picks) (last : ℕ) → picks ≡ Places ps
-    → ArePicks (length (text_pieces a)) picks → AreTexts a → slice_get a.offsets (length (text_pieces a)) ≡ Some last
-    → last < 2 ^ 32 → 2 ^ 32 ≤ length (flat_map (λ p. p) (taken_pieces ps.now (text_pieces a))) → PicksMuch picks true
-texts_much a ps picks last is h t e few l =
+pub texts_much : (v : Validity) (a : TextBytes) (ps : Bor (List ℕ)) (picks : Picks) (last : ℕ) → picks ≡ Places ps
+    → ArePicks (length (text_pieces a)) picks → IsMask (length (text_pieces a)) true v → AreTexts a
+    → slice_get a.offsets (length (text_pieces a)) ≡ Some last → last < 2 ^ 32
+    → 2 ^ 32 ≤ length (flat_map (λ p. p) (taken_pieces v ps.now (text_pieces a))) → PicksMuch picks (TextsMuch v a)
+texts_much v a ps picks last is h m t e few l =
     let n = length (text_pieces a) in
     let b : Below n ps.now = subst (ArePicks n) is h in
-    let same : taken_pieces ps.now (text_pieces a) ≡ picked ps.now (text_pieces a) = picked-taken ps.now (text_pieces a) [] b in
-    let long : length (flat_map (λ p. p) (taken_pieces ps.now (text_pieces a))) ≡ sum (map (size_at a.offsets) ps.now) =
-    ap (λ (ws : List (List ℕ)). length (flat_map (λ p. p) ws)) same ∙ length-joined (picked ps.now (text_pieces a))
-    ∙ ap sum (sym (sizes_picked n a.offsets ps.now a.bytes t.offsets b)) in
+    let qs : List ℕ = shown_places v ps.now in
+    let long : length (flat_map (λ p. p) (taken_pieces v ps.now (text_pieces a))) ≡ sum (map (size_at a.offsets) qs) =
+    ap length (joined_shown v (text_pieces a) ps.now b) ∙ length-joined (picked qs (text_pieces a))
+    ∙ ap sum (sym (sizes_picked n a.offsets qs a.bytes t.offsets (below_shown n v ps.now b))) in
     let starts : AreStarts (λ i. get_or a.offsets i 0) n last = record {
       rise = (offset_starts n (length a.bytes) a.offsets t.offsets).rise;
       within = omega (arith, get_or_from_slice_get a.offsets n last 0 e);
     } in
-    sizes_much (λ i. get_or a.offsets i 0) n last ps picks is h starts (omega (arith, few)) (omega (arith, l, long))
+    let bytes = bytes_picked true v (text_pieces a) ps.now m b in
+    subst (λ (p : Picks). PicksMuch p (TextsMuch v a)) (sym is) (
+      shown_much (λ i. get_or a.offsets i 0) n last v ps.now starts b (omega (arith, l, long, few)),
+      omega (arith, l, bytes),
+    )
+
+-- how texts are picked
+
+pub range_texts : (v : Validity) (a b : TextBytes) (from to : ℕ) (picks : Picks) → picks ≡ Range from to → ArePicks (length (text_pieces a)) picks
+    → IsMask (length (text_pieces a)) true v → text_pieces b ≡ slice_range (text_pieces a) from to
+    → IsPickedTexts (places_in picks) v a b
+range_texts v a b from to picks is h m e =
+    texts_under (length (text_pieces a)) true (places_in picks) v a b m (picks_below (length (text_pieces a)) picks h) refl
+    (e ∙ range_picked (length (text_pieces a)) from to picks (text_pieces a) is h refl)
+
+pub mask_texts : (v : Validity) (a b : TextBytes) (m : Bor (List Bool)) (picks : Picks) → picks ≡ Mask m → ArePicks (length (text_pieces a)) picks
+    → IsMask (length (text_pieces a)) true v → text_pieces b ≡ kept m.now (text_pieces a) → IsPickedTexts (places_in picks) v a b
+mask_texts v a b m picks is h k e =
+    texts_under (length (text_pieces a)) true (places_in picks) v a b k (picks_below (length (text_pieces a)) picks h) refl
+    (e ∙ mask_picks (length (text_pieces a)) m picks (text_pieces a) is h refl)
+
+pub places_texts : (v : Validity) (a b : TextBytes) (ps : Bor (List ℕ)) (picks : Picks) → picks ≡ Places ps → ArePicks (length (text_pieces a)) picks
+    → IsMask (length (text_pieces a)) true v → text_pieces b ≡ taken_pieces v ps.now (text_pieces a)
+    → IsPickedTexts (places_in picks) v a b
+places_texts v a b ps picks is h m e = subst (λ (p : Picks). IsPickedTexts (places_in p) v a b) (sym is) (record {
+  count = ap length e ∙ length-map _ _;
+  same = taken_below bytes_row true v (text_pieces a) (text_pieces b) ps.now m (subst (ArePicks (length (text_pieces a))) is h) e;
+})
 
 -- ---- loops
 
@@ -297,22 +407,6 @@ pub err_is : {A : Type 0} (r : Result A ArrayError) (P : A → Type 0) (Q : Arra
     → IsErrAnd r (λ y. y ≡ e) → Q e → MatchResult r P Q
 err_is (Ok x) P Q e h k = absurd h
 err_is (Err y) P Q e h k = subst Q (sym h) k
-
-or_more : (a b c : Bool) → (b ≡ true → c ≡ true) → (a || b) ≡ true → (a || c) ≡ true
-or_more true b c k h = refl
-or_more false b c k h = k h
-
-fields_pieces : (n : ℕ) (fs : Fields) (cs : List Column) → AreFields n fs cs → any_pieces cs ≡ true → have_pieces fs ≡ true
-fields_pieces n no_fields [] h e = e
-fields_pieces n no_fields (c ∷ cs) h e = absurd h
-fields_pieces n (field x t fs) [] h e = absurd h
-fields_pieces n (field x t fs) (c ∷ cs) h e =
-    or_more (has_pieces t) (any_pieces cs) (have_pieces fs) (fields_pieces n fs cs h.1)
-    (subst (λ (u : Term). (has_pieces u || any_pieces cs) ≡ true) h.0.0 e)
-
-pub structs_pieces : (t : Term) (n : ℕ) (v : Vec Column Global) → IsShaped (Structs v) t n → any_pieces v.items ≡ true → has_pieces t ≡ true
-structs_pieces (structure fs nl) n v h e = fields_pieces n fs v.items h e
-structs_pieces _ n v h e = absurd h
 
 pub spans_within : (start : ℕ → ℕ) (n end : ℕ) (ps : Bor (List ℕ)) (picks : Picks) (xs : List ℕ) → picks ≡ Places ps → ArePicks n picks
     → AreStarts start n end → xs ≡ spans start ps.now → Below end xs

@@ -37,3 +37,4 @@ pub use made_texts::{ConstantArray, NullArray, VarBinArray};
 pub use nested::{FixedSizeListArray, ListArray};
 pub use nested_structs::{ExtArray, StructArray};
 pub use parts::ArrayParts;
+pub use select::takes_are_worked;

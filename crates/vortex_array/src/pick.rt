@@ -5,16 +5,15 @@ ghost use Rattle.std.specs.Prelude.{◌≡◌, length, IfOk, IsOkUnless, MatchRe
 ghost use Rattle.std.specs.List.{AllByRecursion};
 ghost use Rattle.vortex_types.specs.DTypes.{term_of};
 ghost use Rattle.vortex_leaves.specs.Texts.{AreOffsets};
-ghost use Rattle.vortex_array.specs.Content.{IsMask, IsShaped};
-ghost use Rattle.vortex_array.specs.Taken.{has_pieces};
+ghost use Rattle.vortex_array.specs.Content.{is_maskable, IsMask, IsShaped};
 ghost use Rattle.vortex_array.specs.inner.Spans.{spans};
 ghost use Rattle.vortex_array.specs.inner.Picked.{ArePickedColumns, IsPickedColumn, IsPickedContent, IsPickedLists, IsPickedMask};
-ghost use Rattle.vortex_array.specs.inner.PickedPlaces.{any_pieces, places_in, start_in, ArePicks, AreParts, RefusesPick};
+ghost use Rattle.vortex_array.specs.inner.PickedPlaces.{places_in, start_in, AnyMuch, ArePicks, AreParts, ColumnMuch, ContentMuch, ListsMuch, RefusesPick};
 
 use crate::error::ArrayError;
 use crate::held::{Array, Content, Held};
 use crate::pick_leaves::{picked_decimals, picked_numbers, picked_texts, picked_truths};
-use crate::pick_parts::{Parts, are_too_many, spread_mask, spread_places, start};
+use crate::pick_parts::{Parts, are_too_many, spread_mask, spread_places, start, valid_places};
 use crate::pick_rows::{Picks, count};
 use std::alloc::Global;
 use std::rc::Rc;
@@ -64,20 +63,23 @@ fn same_type(alloc: Global, dtype: &DType) -> Result<DType, ArrayError>
     }
 }
 
-/// How the rows that are picked are held. Buffers of a range stay shared.
+/// How the rows that are picked are held, under their mask. Buffers of a range stay shared.
 #[cycle(pick)]
 fn picked_content(
     alloc: Global,
     dtype: &DType,
     content: &Content,
+    validity: &Option<Mask>,
     n: usize,
     picks: &Picks,
 ) -> Result<Content, ArrayError>
     requires shape { IsShaped content.now (term_of dtype.now) n }
+    requires mask { IsMask n (is_maskable (term_of dtype.now)) validity.now }
     requires picks { ArePicks n picks.now }
-    ensures { MatchResult result
-        (λ c. IsPickedContent (term_of dtype.now) (places_in picks.now) n content.now c)
-        (RefusesPick picks.now (has_pieces (term_of dtype.now))) }
+    ensures { MatchResult result (λ c.
+        IsPickedContent (term_of dtype.now) (places_in picks.now) n validity.now content.now c)
+        (RefusesPick picks.now
+        (ContentMuch (term_of dtype.now) n validity.now content.now)) }
 {
     match content {
         Content::Nulls => Ok(Content::Nulls),
@@ -90,12 +92,16 @@ fn picked_content(
             let decimals = picked_decimals(alloc, decimals, picks)?;
             Ok(Content::Decimals(decimals))
         }
-        Content::Texts(texts) => Ok(Content::Texts(picked_texts(alloc, texts, picks)?)),
+        Content::Texts(texts) => {
+            let texts = picked_texts(alloc, texts, validity, picks)?;
+            Ok(Content::Texts(texts))
+        }
         Content::Lists(offsets, elements) => {
-            let (offsets, elements) = picked_lists(alloc, offsets, elements, n, picks)?;
+            let (offsets, elements) = picked_lists(alloc, offsets, elements, validity, n, picks)?;
             Ok(Content::Lists(offsets, elements))
         }
         Content::FixedLists(size, elements) => {
+            elements.law();
             let size = *size;
             let parts = Parts::Even(size as usize);
             let cut = picked_elements(alloc, elements, &parts, n, picks)?;
@@ -114,20 +120,22 @@ fn picked_content(
 }
 
 /// The offsets and elements of the lists that are picked. Elements of a range stay as they are, and
-/// others are joined without gaps.
+/// others are joined without gaps: at places, a null list has none.
 #[cycle(pick)]
 fn picked_lists(
     alloc: Global,
     offsets: &Offsets,
     elements: &Rc<Array>,
+    validity: &Option<Mask>,
     n: usize,
     picks: &Picks,
 ) -> Result<(Offsets, Rc<Array>), ArrayError>
     requires shape { AreOffsets n (length elements.now.value.rows) offsets.now }
+    requires mask { IsMask n true validity.now }
     requires picks { ArePicks n picks.now }
-    ensures { MatchResult result
-        (λ p. IsPickedLists (places_in picks.now) offsets.now elements.now.value p.0 p.1.value)
-        (RefusesPick picks.now true) }
+    ensures { MatchResult result (λ p. IsPickedLists (places_in picks.now) validity.now
+        offsets.now elements.now.value p.0 p.1.value)
+        (RefusesPick picks.now (ListsMuch validity.now offsets.now elements.now.value)) }
 {
     match picks {
         Picks::Range(from, to) => {
@@ -142,11 +150,12 @@ fn picked_lists(
         }
         Picks::Places(places) => {
             elements.law();
-            let Some(joined) = offsets.take(alloc, places)? else {
+            let Some(joined) = offsets.take(alloc, validity.as_ref(), places)? else {
                 return Err(ArrayError::TooLarge);
             };
+            let shown = valid_places(alloc, validity, n, places)?;
             let parts = Parts::Between(offsets);
-            let cut = picked_elements(alloc, elements, &parts, n, picks)?;
+            let cut = picked_elements(alloc, elements, &parts, n, &Picks::Places(&shown))?;
             Ok((joined, Rc::new(alloc, cut)?))
         }
     }
@@ -165,7 +174,8 @@ fn picked_elements(
     requires picks { ArePicks n picks.now }
     ensures { MatchResult result
         (IsPickedColumn (spans (start_in parts.now) (places_in picks.now)) elements.now)
-        (RefusesPick picks.now true) }
+        (RefusesPick picks.now
+        (λ places. ColumnMuch elements.now (spans (start_in parts.now) places))) }
 {
     elements.law();
     let end = elements.len();
@@ -203,11 +213,12 @@ fn picked_fields(
     requires picks { ArePicks n picks.now }
     ensures { MatchResult result
         (λ v. ArePickedColumns (places_in picks.now) fields.now v.items)
-        (RefusesPick picks.now (any_pieces fields.now)) }
+        (RefusesPick picks.now (AnyMuch fields.now)) }
 {
     let mut out = Vec::with_capacity(alloc, fields.len())?;
     let mut rest = fields;
     while let [first, others @ ..] = rest {
+        first.law();
         out.push(pick(alloc, first, picks)?)?;
         rest = others;
     }
@@ -220,7 +231,7 @@ pub(crate) fn pick(alloc: Global, array: &Array, picks: &Picks) -> Result<Array,
     requires { ArePicks (length array.now.rows) picks.now }
     ensures { MatchResult result
         (λ a. IsPickedColumn (places_in picks.now) array.now a)
-        (RefusesPick picks.now (has_pieces array.now.dtype)) }
+        (RefusesPick picks.now (ColumnMuch array.now)) }
 {
     let nullable = array.dtype.is_nullable();
     let rows = count(array.len, picks);
@@ -228,7 +239,14 @@ pub(crate) fn pick(alloc: Global, array: &Array, picks: &Picks) -> Result<Array,
         return Err(ArrayError::TooLarge);
     }
     let validity = picked_mask(alloc, &array.held.validity, array.len, nullable, picks)?;
-    let content = picked_content(alloc, &array.dtype, &array.held.content, array.len, picks)?;
+    let content = picked_content(
+        alloc,
+        &array.dtype,
+        &array.held.content,
+        &array.held.validity,
+        array.len,
+        picks,
+    )?;
     let dtype = same_type(alloc, &array.dtype)?;
     Ok(Array::made(dtype, rows, Held { content, validity }))
 }

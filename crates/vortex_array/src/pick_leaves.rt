@@ -4,8 +4,9 @@ ghost use Rattle.std.specs.Prelude.{◌≡◌, length, MatchResult, true};
 ghost use Rattle.vortex_leaves.specs.Numbers.{number_rows};
 ghost use Rattle.vortex_leaves.specs.Selected.{AreNumbersOf};
 ghost use Rattle.vortex_leaves.specs.Texts.{text_pieces};
-ghost use Rattle.vortex_array.specs.inner.Picked.{picked};
-ghost use Rattle.vortex_array.specs.inner.PickedPlaces.{places_in, ArePicks, RefusesPick};
+ghost use Rattle.vortex_array.specs.Content.{IsMask};
+ghost use Rattle.vortex_array.specs.inner.Picked.{picked, IsPickedTexts};
+ghost use Rattle.vortex_array.specs.inner.PickedPlaces.{places_in, ArePicks, RefusesPick, TextsMuch};
 
 use crate::error::ArrayError;
 use crate::pick_rows::Picks;
@@ -71,12 +72,19 @@ pub(crate) fn picked_decimals(
     }
 }
 
-/// The texts that are picked. Those of a range stay shared, and others are joined without gaps.
-pub(crate) fn picked_texts(alloc: Global, texts: &Texts, picks: &Picks) -> Result<Texts, ArrayError>
-    requires { ArePicks (length (text_pieces texts.now)) picks.now }
+/// The texts that are picked, under their mask. Those of a range stay shared, and others are joined
+/// without gaps: at places, a null text has no bytes.
+pub(crate) fn picked_texts(
+    alloc: Global,
+    texts: &Texts,
+    validity: &Option<Mask>,
+    picks: &Picks,
+) -> Result<Texts, ArrayError>
+    requires mask { IsMask (length (text_pieces texts.now)) true validity.now }
+    requires picks { ArePicks (length (text_pieces texts.now)) picks.now }
     ensures { MatchResult result
-        (λ a. text_pieces a ≡ picked (places_in picks.now) (text_pieces texts.now))
-        (RefusesPick picks.now true) }
+        (IsPickedTexts (places_in picks.now) validity.now texts.now)
+        (RefusesPick picks.now (TextsMuch validity.now texts.now)) }
 {
     texts.law();
     let last = texts.offsets().get(texts.len());
@@ -84,7 +92,7 @@ pub(crate) fn picked_texts(alloc: Global, texts: &Texts, picks: &Picks) -> Resul
     match picks {
         Picks::Range(from, to) => Ok(texts.slice(*from, *to)?),
         Picks::Mask(mask) => Ok(texts.filter(alloc, mask)?),
-        Picks::Places(places) => match texts.take(alloc, places)? {
+        Picks::Places(places) => match texts.take(alloc, validity.as_ref(), places)? {
             Some(texts) => Ok(texts),
             None => Err(ArrayError::TooLarge),
         },

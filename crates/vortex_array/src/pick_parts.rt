@@ -1,10 +1,10 @@
 //! What is in the rows that are picked: which of the elements of lists.
 
-ghost use Rattle.std.specs.Prelude.{◌≡◌, ◌≤◌, ◌<◌, ◌++◌, ◌-◌, length, replicate, MatchResult, true};
+ghost use Rattle.std.specs.Prelude.{◌≡◌, ◌≤◌, ◌<◌, ◌++◌, ◌-◌, length, replicate, IfSome, MatchResult, Some, true};
 ghost use Rattle.std.specs.List.{All};
 ghost use Rattle.vortex_mask.specs.Truths.{places_of};
 ghost use Rattle.vortex_node_rows.specs.RowsOf.{most_rows};
-ghost use Rattle.vortex_array.specs.inner.Picked.{from_on};
+ghost use Rattle.vortex_array.specs.inner.Picked.{from_on, shown_places};
 ghost use Rattle.vortex_array.specs.inner.Spans.{spans};
 ghost use Rattle.vortex_array.specs.inner.PickedPlaces.{start_in, AreParts};
 
@@ -98,6 +98,40 @@ pub(crate) fn are_too_many(parts: &Parts, places: &[u32]) -> bool
     match parts {
         Parts::Between(_) => false,
         Parts::Even(size) => places.len().saturating_mul(*size) > MOST_ROWS,
+    }
+}
+
+/// The places at which the mask is true.
+fn marked_places(alloc: Global, mask: &Mask, places: &[u32]) -> Result<Vec<u32>, ArrayError>
+    requires { All (λ place. place < length mask.now) places.now }
+    ensures { MatchResult result (λ v. v.items ≡ shown_places (Some mask.now) places.now)
+        (λ e. e ≡ ArrayError.OutOfMemory) }
+{
+    let mut out = Vec::with_capacity(alloc, places.len())?;
+    for place in places {
+        if mask.value(*place as usize) {
+            out.push(*place)?;
+        }
+    }
+    Ok(out)
+}
+
+/// The places of rows, of n, that are not null.
+pub(crate) fn valid_places(
+    alloc: Global,
+    validity: &Option<Mask>,
+    n: usize,
+    places: &[u32],
+) -> Result<Vec<u32>, ArrayError>
+    requires mask { IfSome validity.now (λ m. length m ≡ n) }
+    requires in_range { All (λ place. place < n) places.now }
+    ensures { MatchResult result (λ v. v.items ≡ shown_places validity.now places.now)
+        (λ e. e ≡ ArrayError.OutOfMemory) }
+{
+    let _ = n;
+    match validity {
+        None => Ok(Vec::from_slice(alloc, places)?),
+        Some(mask) => marked_places(alloc, mask, places),
     }
 }
 

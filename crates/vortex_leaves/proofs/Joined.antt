@@ -11,11 +11,12 @@ use Rattle.std.proofs.lemmas.Option.{get_or_from_slice_get}
 use Rattle.std.proofs.lemmas.List.Sums.{sum_by-cons, sum_by-append, sum_by-take-le}
 use Rattle.vortex_terms.specs.FromColumns.{pieces, last_from}
 use Rattle.vortex_node_rows.specs.Buffers.{rises_from, never_fall}
+use Rattle.vortex_node_rows.specs.RowsOf.{Validity}
 use Rattle.vortex_mask.specs.Truths.{places_of}
 use Rattle.vortex_mask.proofs.Filters.{places_more}
 use Rattle.vortex_terms.specs.Types.{IsBytes}
 use Rattle.vortex_leaves.specs.Texts.{AreOffsets, AreTexts, TextBytes, text_pieces}
-use Rattle.vortex_leaves.specs.Selected.{ends, joined_offsets, size_at, taken_pieces}
+use Rattle.vortex_leaves.specs.Selected.{ends, is_shown, joined_offsets, shown_piece, shown_size, size_at, taken_pieces}
 use Rattle.vortex_leaves.proofs.Rising.{step, least_last, ends_within}
 use Rattle.vortex_leaves.proofs.Pieces.{offset_rises, texts_made}
 
@@ -158,30 +159,37 @@ filtered_no from m i os end h r lt l t =
 
 -- ---- the offsets of pieces at places
 
-pub taken_more : (from places : List ℕ) (i p : ℕ) (os new : List ℕ) (end a b next : ℕ)
-    → AreJoinedAt (size_at from) (take i places) os end → i < length places → p ≡ get_or places i 0
-    → slice_get from p ≡ Some a → slice_get from (suc p) ≡ Some b → next ≡ end + (b - a) → new ≡ os ++ next ∷ []
-    → AreJoinedAt (size_at from) (take (i + 1) places) new next
-taken_more from places i p os new end a b next h lt at e f n s =
-    let here : get_or from p 0 ≡ a = get_or_from_slice_get from p a 0 e in
-    let there : get_or from (suc p) 0 ≡ b = get_or_from_slice_get from (suc p) b 0 f in
-    let size : size_at from p ≡ b - a = ap (λ j. get_or from (suc p) 0 - j) here ∙ ap (λ j. j - a) there in
+-- how long a piece is by its bounds, which is shown
+pub shown_whole : (v : Validity) (os : List ℕ) (i a b : ℕ) → is_shown v i ≡ true → slice_get os i ≡ Some a → slice_get os (suc i) ≡ Some b
+    → b - a ≡ shown_size v os i
+shown_whole v os i a b t e f =
+    let here : get_or os i 0 ≡ a = get_or_from_slice_get os i a 0 e in
+    let there : get_or os (suc i) 0 ≡ b = get_or_from_slice_get os (suc i) b 0 f in
+    sym (ap (λ (s : Bool). if s then size_at os i else 0) t ∙ ap (λ j. get_or os (suc i) 0 - j) here ∙ ap (λ j. j - a) there)
+
+pub hidden_none : (v : Validity) (os : List ℕ) (i : ℕ) → is_shown v i ≡ false → 0 ≡ shown_size v os i
+hidden_none v os i t = sym (ap (λ (s : Bool). if s then size_at os i else 0) t)
+
+-- one more piece, of a size
+pub sized_more : (f : ℕ → ℕ) (places : List ℕ) (i p : ℕ) (os new : List ℕ) (end size next : ℕ)
+    → AreJoinedAt f (take i places) os end → i < length places → p ≡ get_or places i 0 → size ≡ f p
+    → next ≡ end + size → new ≡ os ++ next ∷ [] → AreJoinedAt f (take (i + 1) places) new next
+sized_more f places i p os new end size next h lt at e n s =
     let more : take (i + 1) places ≡ take i places ++ p ∷ [] =
     take_more places i 0 lt ∙ ap (λ (j : ℕ). take i places ++ j ∷ []) (sym at) in
-    subst (λ ps. AreJoinedAt (size_at from) ps new next) (sym more)
-    (joined_more (size_at from) (take i places) os new p end next h (n ∙ ap (λ j. end + j) (sym size)) s)
+    subst (λ ps. AreJoinedAt f ps new next) (sym more)
+    (joined_more f (take i places) os new p end next h (n ∙ ap (λ j. end + j) e) s)
 
 -- where one more piece passes, all of them do
-pub taken_large : (from places : List ℕ) (i p : ℕ) (os : List ℕ) (end a b most : ℕ)
-    → AreJoinedAt (size_at from) (take i places) os end → i < length places → p ≡ get_or places i 0
-    → slice_get from p ≡ Some a → slice_get from (suc p) ≡ Some b → most ≤ end + (b - a)
-    → most ≤ sum (map (size_at from) places)
-taken_large from places i p os end a b most h lt at e f l =
-    let next : AreJoinedAt (size_at from) (take (i + 1) places) (os ++ (end + (b - a)) ∷ []) (end + (b - a)) =
-    taken_more from places i p os (os ++ (end + (b - a)) ∷ []) end a b (end + (b - a)) h lt at e f refl refl in
-    let front : sum (map (size_at from) (take (i + 1) places)) ≡ sum (take (i + 1) (map (size_at from) places)) =
-    ap sum (sym (take-map (size_at from) (i + 1) places)) in
-    omega (arith, l, next.total, front, sum_by-take-le (λ x. x) (map (size_at from) places) (i + 1))
+pub sized_large : (f : ℕ → ℕ) (places : List ℕ) (i p : ℕ) (os : List ℕ) (end size most : ℕ)
+    → AreJoinedAt f (take i places) os end → i < length places → p ≡ get_or places i 0 → size ≡ f p
+    → most ≤ end + size → most ≤ sum (map f places)
+sized_large f places i p os end size most h lt at e l =
+    let next : AreJoinedAt f (take (i + 1) places) (os ++ (end + size) ∷ []) (end + size) =
+    sized_more f places i p os (os ++ (end + size) ∷ []) end size (end + size) h lt at e refl refl in
+    let front : sum (map f (take (i + 1) places)) ≡ sum (take (i + 1) (map f places)) =
+    ap sum (sym (take-map f (i + 1) places)) in
+    omega (arith, l, next.total, front, sum_by-take-le (λ x. x) (map f places) (i + 1))
 
 -- ---- pieces at places
 
@@ -203,12 +211,22 @@ piece_size os xs p r w l =
     ap length (pieces_get os xs p l)
     ∙ omega (arith, length-take (size_at os p) (drop (get_or os p 0) xs), length-drop (get_or os p 0) xs, offset_last 0 os (suc p) r l, offset_rises 0 os p r l, w)
 
-sizes_taken : (os bytes places : List ℕ) → never_fall os ≡ true → last_from 0 os ≤ length bytes
-    → AllByRecursion (λ p. suc p < length os) places → map length (taken_pieces places (pieces os bytes)) ≡ map (size_at os) places
-sizes_taken os bytes [] r w b = refl
-sizes_taken os bytes (p ∷ places) r w b =
-    ap (λ (j : ℕ). j ∷ map length (taken_pieces places (pieces os bytes))) (piece_size os bytes p r w b.0)
-    ∙ ap (λ (l : List ℕ). size_at os p ∷ l) (sizes_taken os bytes places r w b.1)
+-- a piece that is hidden has no length
+pub shown_length : {A : Type 0} (v : Validity) (os : List ℕ) (xs : List A) (p : ℕ) → never_fall os ≡ true
+    → last_from 0 os ≤ length xs → suc p < length os → length (shown_piece v (pieces os xs) p) ≡ shown_size v os p
+shown_length {A = A} v os xs p r w l = by (is_shown v p)
+  where
+    by : (b : Bool) → length (if b then get_or (pieces os xs) p [] else []) ≡ (if b then size_at os p else 0)
+    by true = piece_size os xs p r w l
+    by false = refl
+
+pub sizes_taken : {A : Type 0} (v : Validity) (os : List ℕ) (xs : List A) (places : List ℕ) → never_fall os ≡ true
+    → last_from 0 os ≤ length xs → AllByRecursion (λ p. suc p < length os) places
+    → map length (taken_pieces v places (pieces os xs)) ≡ map (shown_size v os) places
+sizes_taken v os xs [] r w b = refl
+sizes_taken v os xs (p ∷ places) r w b =
+    ap (λ (j : ℕ). j ∷ map length (taken_pieces v places (pieces os xs))) (shown_length v os xs p r w b.0)
+    ∙ ap (λ (l : List ℕ). shown_size v os p ∷ l) (sizes_taken v os xs places r w b.1)
 
 all_ends : (n k : ℕ) (places : List ℕ) → k ≡ suc n → All (λ p. p < n) places → AllByRecursion (λ p. suc p < k) places
 all_ends n k [] e h = tt
@@ -221,16 +239,16 @@ all_bounds n k places e h =
     All-from_get_or (λ p. suc p < k) places 0 (λ i l. omega (arith, e, All-get_or (λ p. p < n) places i 0 l h))
 
 -- what is taken of texts
-pub texts_taken : (os bytes new joined copy part places : List ℕ) → AreTexts (record { offsets = os; bytes = bytes })
-    → All (λ p. p < length (pieces os bytes)) places → new ≡ joined_offsets (map (size_at os) places)
-    → joined ≡ flat_map (λ p. get_or (pieces os bytes) p []) places → copy ≡ joined → part ≡ copy → IsBytes part
-    → AreTexts (record { offsets = new; bytes = copy }) × (pieces new copy ≡ taken_pieces places (pieces os bytes))
-texts_taken os bytes new joined copy part places h b e j c s low =
+pub texts_taken : (v : Validity) (os bytes new joined copy part places : List ℕ) → AreTexts (record { offsets = os; bytes = bytes })
+    → All (λ p. p < length (pieces os bytes)) places → new ≡ joined_offsets (map (shown_size v os) places)
+    → joined ≡ flat_map (shown_piece v (pieces os bytes)) places → copy ≡ joined → part ≡ copy → IsBytes part
+    → AreTexts (record { offsets = new; bytes = copy }) × (pieces new copy ≡ taken_pieces v places (pieces os bytes))
+texts_taken v os bytes new joined copy part places h b e j c s low =
     let ps = pieces os bytes in
-    let ws : List (List ℕ) = taken_pieces places ps in
-    let sizes : map length ws ≡ map (size_at os) places =
-    sizes_taken os bytes places h.offsets.rise h.offsets.within (all_ends (length ps) (length os) places h.offsets.count b) in
-    let all : copy ≡ flat_map (λ w. w) ws = c ∙ j ∙ sym (flat_map-map (λ (w : List ℕ). w) (λ p. get_or ps p []) places) in
+    let ws : List (List ℕ) = taken_pieces v places ps in
+    let sizes : map length ws ≡ map (shown_size v os) places =
+    sizes_taken v os bytes places h.offsets.rise h.offsets.within (all_ends (length ps) (length os) places h.offsets.count b) in
+    let all : copy ≡ flat_map (λ w. w) ws = c ∙ j ∙ sym (flat_map-map (λ (w : List ℕ). w) (shown_piece v ps) places) in
     let from : new ≡ joined_offsets (map length ws) = e ∙ ap joined_offsets (sym sizes) in
     let long : length copy ≡ sum (map length ws) = ap length all ∙ length-joined ws in
     let shape : AreOffsets (length (map length ws)) (length copy) new =
@@ -239,45 +257,58 @@ texts_taken os bytes new joined copy part places h b e j c s low =
       ap (λ l. pieces l copy) from ∙ ap (pieces (joined_offsets (map length ws))) all ∙ pieces_joined ws,
     )
 
-pub texts_large : (os bytes places : List ℕ) (most : ℕ) → AreTexts (record { offsets = os; bytes = bytes })
-    → All (λ p. p < length (pieces os bytes)) places → most ≤ sum (map (size_at os) places)
-    → most ≤ length (flat_map (λ p. p) (taken_pieces places (pieces os bytes)))
-texts_large os bytes places most h b l =
+pub texts_large : (v : Validity) (os bytes places : List ℕ) (most : ℕ) → AreTexts (record { offsets = os; bytes = bytes })
+    → All (λ p. p < length (pieces os bytes)) places → most ≤ sum (map (shown_size v os) places)
+    → most ≤ length (flat_map (λ p. p) (taken_pieces v places (pieces os bytes)))
+texts_large v os bytes places most h b l =
     let ps = pieces os bytes in
-    let sizes : map length (taken_pieces places ps) ≡ map (size_at os) places =
-    sizes_taken os bytes places h.offsets.rise h.offsets.within (all_ends (length ps) (length os) places h.offsets.count b) in
-    omega (arith, l, ap sum sizes, length-joined (taken_pieces places ps))
+    let sizes : map length (taken_pieces v places ps) ≡ map (shown_size v os) places =
+    sizes_taken v os bytes places h.offsets.rise h.offsets.within (all_ends (length ps) (length os) places h.offsets.count b) in
+    omega (arith, l, ap sum sizes, length-joined (taken_pieces v places ps))
 
-pub bytes_more : (ps : List (List ℕ)) (places : List ℕ) (i : ℕ) (row before after : List ℕ) → i < length places
-    → slice_get ps (get_or places i 0) ≡ Some row → before ≡ flat_map (λ p. get_or ps p []) (take i places)
-    → after ≡ before ++ row → after ≡ flat_map (λ p. get_or ps p []) (take (i + 1) places)
-bytes_more ps places i row before after lt e b a =
-    let f : ℕ → List ℕ = λ p. get_or ps p [] in
-    let here : get_or ps (get_or places i 0) [] ≡ row = get_or_from_slice_get ps (get_or places i 0) row [] e in
+bytes_more : (f : ℕ → List ℕ) (places : List ℕ) (i : ℕ) (row before after : List ℕ) → i < length places
+    → f (get_or places i 0) ≡ row → before ≡ flat_map f (take i places) → after ≡ before ++ row
+    → after ≡ flat_map f (take (i + 1) places)
+bytes_more f places i row before after lt e b a =
     a ∙ ap (λ (l : List ℕ). l ++ row) b
-    ∙ ap (λ (l : List ℕ). flat_map f (take i places) ++ l) (sym here ∙ sym (append-nil (f (get_or places i 0))))
+    ∙ ap (λ (l : List ℕ). flat_map f (take i places) ++ l) (sym e ∙ sym (append-nil (f (get_or places i 0))))
     ∙ sym (flat_map-append f (take i places) (get_or places i 0 ∷ [])) ∙ ap (flat_map f) (sym (take_more places i 0 lt))
 
--- the same of what is held, where t is what it is seen as
-pub held_taken : (os bytes new joined copy part places : List ℕ) (t : TextBytes) → record { offsets = os; bytes = bytes } ≡ t
-    → AreTexts (record { offsets = os; bytes = bytes })
-    → All (λ p. p < length (text_pieces t)) places → new ≡ joined_offsets (map (size_at os) places)
-    → joined ≡ flat_map (λ p. get_or (text_pieces t) p []) places → copy ≡ joined → part ≡ copy → IsBytes part
-    → AreTexts (record { offsets = new; bytes = copy }) × (pieces new copy ≡ taken_pieces places (text_pieces t))
-held_taken os bytes new joined copy part places t v h b e j c s low =
-    let same : pieces os bytes ≡ text_pieces t = ap text_pieces v in
-    let found = texts_taken os bytes new joined copy part places h
-    (subst (λ (ps : List (List ℕ)). All (λ p. p < length ps) places) (sym same) b) e
-    (subst (λ (ps : List (List ℕ)). joined ≡ flat_map (λ p. get_or ps p []) places) (sym same) j) c s low in
-    (found.0, found.1 ∙ ap (taken_pieces places) same)
+pub bytes_shown : (v : Validity) (ps : List (List ℕ)) (places : List ℕ) (i : ℕ) (row before after : List ℕ) → i < length places
+    → is_shown v (get_or places i 0) ≡ true → slice_get ps (get_or places i 0) ≡ Some row
+    → before ≡ flat_map (shown_piece v ps) (take i places) → after ≡ before ++ row
+    → after ≡ flat_map (shown_piece v ps) (take (i + 1) places)
+bytes_shown v ps places i row before after lt t e b a =
+    bytes_more (shown_piece v ps) places i row before after lt
+    (ap (λ (b : Bool). if b then get_or ps (get_or places i 0) [] else []) t ∙ get_or_from_slice_get ps (get_or places i 0) row [] e) b a
 
-pub held_large : (os bytes places : List ℕ) (most : ℕ) (t : TextBytes) → record { offsets = os; bytes = bytes } ≡ t
+pub bytes_hidden : (v : Validity) (ps : List (List ℕ)) (places : List ℕ) (i : ℕ) (before : List ℕ) → i < length places
+    → is_shown v (get_or places i 0) ≡ false → before ≡ flat_map (shown_piece v ps) (take i places)
+    → before ≡ flat_map (shown_piece v ps) (take (i + 1) places)
+bytes_hidden v ps places i before lt t b =
+    bytes_more (shown_piece v ps) places i [] before before lt
+    (ap (λ (b : Bool). if b then get_or ps (get_or places i 0) [] else []) t) b (sym (append-nil before))
+
+-- the same of what is held, where t is what it is seen as
+pub held_taken : (v : Validity) (os bytes new joined copy part places : List ℕ) (t : TextBytes) → record { offsets = os; bytes = bytes } ≡ t
+    → AreTexts (record { offsets = os; bytes = bytes })
+    → All (λ p. p < length (text_pieces t)) places → new ≡ joined_offsets (map (shown_size v os) places)
+    → joined ≡ flat_map (shown_piece v (text_pieces t)) places → copy ≡ joined → part ≡ copy → IsBytes part
+    → AreTexts (record { offsets = new; bytes = copy }) × (pieces new copy ≡ taken_pieces v places (text_pieces t))
+held_taken v os bytes new joined copy part places t is h b e j c s low =
+    let same : pieces os bytes ≡ text_pieces t = ap text_pieces is in
+    let found = texts_taken v os bytes new joined copy part places h
+    (subst (λ (ps : List (List ℕ)). All (λ p. p < length ps) places) (sym same) b) e
+    (subst (λ (ps : List (List ℕ)). joined ≡ flat_map (shown_piece v ps) places) (sym same) j) c s low in
+    (found.0, found.1 ∙ ap (taken_pieces v places) same)
+
+pub held_large : (v : Validity) (os bytes places : List ℕ) (most : ℕ) (t : TextBytes) → record { offsets = os; bytes = bytes } ≡ t
     → AreTexts (record { offsets = os; bytes = bytes }) → All (λ p. p < length (text_pieces t)) places
-    → most ≤ sum (map (size_at os) places) → most ≤ length (flat_map (λ p. p) (taken_pieces places (text_pieces t)))
-held_large os bytes places most t v h b l =
-    let same : pieces os bytes ≡ text_pieces t = ap text_pieces v in
-    subst (λ (ps : List (List ℕ)). most ≤ length (flat_map (λ (p : List ℕ). p) (taken_pieces places ps))) same
-    (texts_large os bytes places most h (subst (λ (ps : List (List ℕ)). All (λ p. p < length ps) places) (sym same) b) l)
+    → most ≤ sum (map (shown_size v os) places) → most ≤ length (flat_map (λ p. p) (taken_pieces v places (text_pieces t)))
+held_large v os bytes places most t is h b l =
+    let same : pieces os bytes ≡ text_pieces t = ap text_pieces is in
+    subst (λ (ps : List (List ℕ)). most ≤ length (flat_map (λ (p : List ℕ). p) (taken_pieces v places ps))) same
+    (texts_large v os bytes places most h (subst (λ (ps : List (List ℕ)). All (λ p. p < length ps) places) (sym same) b) l)
 
 pub held_bounds : (os bytes places : List ℕ) (t : TextBytes) → record { offsets = os; bytes = bytes } ≡ t
     → AreTexts (record { offsets = os; bytes = bytes }) → All (λ p. p < length (text_pieces t)) places

@@ -1,14 +1,16 @@
 //! Parts of texts.
 
-ghost use Rattle.std.specs.Prelude.{◌≡◌, ◌≤◌, ◌<◌, [], length, slice_index_or, slice_range, IfOk, MatchResult};
+ghost use Rattle.std.specs.Prelude.{◌≡◌, ◌≤◌, ◌<◌, length, slice_range, IfOk, IfSome, MatchResult};
 ghost use Rattle.std.specs.List.{All, flat_map};
+ghost use Rattle.std.specs.Option.{option_map};
 ghost use Rattle.vortex_mask.specs.Truths.{kept};
-ghost use Rattle.vortex_leaves.specs.Selected.{taken_pieces, AreJoinedPieces};
+ghost use Rattle.vortex_leaves.specs.Selected.{shown_piece, taken_pieces, AreJoinedPieces};
 ghost use Rattle.vortex_leaves.specs.Texts.{text_pieces};
 
 use crate::LeafError;
 use crate::buffers::are_bytes;
 use crate::offsets_builder::OffsetsBuilder;
+use crate::select_offsets::shows;
 use crate::texts::Texts;
 use bytes::Bytes;
 use std::alloc::{AllocError, Global};
@@ -52,34 +54,51 @@ impl Texts {
         Ok(Texts { offsets, bytes })
     }
 
-    /// The bytes of the pieces at these places, joined. There are so many.
-    fn taken_bytes(&self, alloc: Global, size: usize, places: &[u32]) -> Result<Vec<u8>, AllocError>
+    /// The bytes of the pieces at these places that are not hidden, joined. There are so many.
+    fn taken_bytes(
+        &self,
+        alloc: Global,
+        size: usize,
+        valid: Option<&Mask>,
+        places: &[u32],
+    ) -> Result<Vec<u8>, AllocError>
+        requires marked { IfSome valid (λ m. length m.now ≡ length (text_pieces self.now)) }
         requires in_range { All (λ place. place < length (text_pieces self.now)) places.now }
-        ensures { IfOk result (λ v. v.items
-            ≡ flat_map (λ place. slice_index_or (text_pieces self.now) place []) places.now) }
+        ensures { IfOk result (λ v. v.items ≡ flat_map
+            (shown_piece (option_map (λ m. m.now) valid.entry) (text_pieces self.now))
+            places.now) }
     {
         let mut bytes = Vec::with_capacity(alloc, size)?;
         for place in places {
-            bytes.extend_from_slice(self.piece(*place as usize))?;
+            let place = *place as usize;
+            if shows(valid, place) {
+                bytes.extend_from_slice(self.piece(place))?;
+            }
         }
         Ok(bytes)
     }
 
-    /// The pieces at these places, in their order, joined without gaps. None where they have more
-    /// than 4,294,967,295 bytes together.
-    pub fn take(&self, alloc: Global, places: &[u32]) -> Result<Option<Texts>, LeafError>
+    /// The pieces at these places, in their order, joined without gaps. Pieces that `valid` hides
+    /// are empty. None where they have more than 4,294,967,295 bytes together.
+    pub fn take(
+        &self,
+        alloc: Global,
+        valid: Option<&Mask>,
+        places: &[u32],
+    ) -> Result<Option<Texts>, LeafError>
+        requires marked { IfSome valid (λ m. length m.now ≡ length (text_pieces self.now)) }
         requires in_range { All (λ place. place < length (text_pieces self.now)) places.now }
-        ensures { MatchResult result
-            (AreJoinedPieces (taken_pieces places.now (text_pieces self.now)))
+        ensures { MatchResult result (AreJoinedPieces
+            (taken_pieces (option_map (λ m. m.now) valid.entry) places.now (text_pieces self.now)))
             (λ e. e ≡ LeafError.OutOfMemory) }
     {
         self.law();
-        let Some(offsets) = self.offsets.take(alloc, places)? else {
+        let Some(offsets) = self.offsets.take(alloc, valid, places)? else {
             return Ok(None);
         };
         offsets.law();
         let size = offsets.get(offsets.len()) as usize;
-        let bytes = Bytes::from_vec(self.taken_bytes(alloc, size, places)?)?;
+        let bytes = Bytes::from_vec(self.taken_bytes(alloc, size, valid, places)?)?;
         are_bytes(bytes.as_slice());
         Ok(Some(Texts { offsets, bytes }))
     }

@@ -2,14 +2,19 @@
 --     picked                the elements at places
 --     from_on               places that follow one another
 --     is_plain_content      no constant stands in how rows are held
+--     shown_places          those at which no mask hides a row
 --     IsPickedColumn        the rows at places, under the same type
+--     ArePickedBelow        rows at places, but for those that are null
+--     IsPickedTexts         the texts at places
 --     IsPickedLists         the lists at places, by their offsets and elements
 --     IsPickedContent       the same of how rows are held
-use Rattle.std.specs.Prelude.{◌≡◌, ℕ, zero, suc, List, [], ◌∷◌, Bool, true, Some, None, length}
+use Rattle.std.specs.Prelude.{◌≡◌, ℕ, zero, suc, List, [], ◌∷◌, Bool, true, if◌then◌else◌, Some, None, map, length}
 use Rattle.vortex_terms.specs.Term.{Term}
-use Rattle.vortex_terms.specs.FromColumns.{pieces}
+use Rattle.vortex_terms.specs.Row.{Row, bytes_row}
+use Rattle.vortex_terms.specs.FromColumns.{list_rows, masked}
 use Rattle.vortex_node_rows.specs.RowsOf.{Validity}
-use Rattle.vortex_leaves.specs.Texts.{AreOffsets}
+use Rattle.vortex_leaves.specs.Selected.{is_shown}
+use Rattle.vortex_leaves.specs.Texts.{AreOffsets, TextBytes, text_pieces}
 use Rattle.vortex_array.specs.ArrayNode.{no_array_nodes, array_nodes_before}
 use Rattle.vortex_array.specs.Canonical.{is_canonical, are_canonical}
 use Rattle.vortex_array.specs.Column.{Column}
@@ -31,6 +36,16 @@ picked (i ∷ is) xs = at_onto xs i (picked is xs)
 abbrev pub from_on : ℕ → ℕ → List ℕ
 from_on zero a = []
 from_on (suc k) a = a ∷ from_on k (suc a)
+
+-- the places at which no mask hides a row
+abbrev pub shown_places : Validity → List ℕ → List ℕ
+shown_places v [] = []
+shown_places v (p ∷ ps) = if is_shown v p then p ∷ shown_places v ps else shown_places v ps
+
+-- the truth values at places, where there are any
+abbrev pub picked_validity : List ℕ → Validity → Validity
+picked_validity ps None = None
+picked_validity ps (Some m) = Some (picked ps m)
 
 -- no constant stands in what holds the rows
 abbrev pub is_plain_content : Content → Bool
@@ -57,15 +72,24 @@ IsPickedMask ps None None = Unit {0}
 IsPickedMask ps (Some m) (Some k) = k ≡ picked ps m
 IsPickedMask ps _ _ = ⊥
 
+-- rows at places, where those are null that a mask hides: what stands below a null is free
+abbrev pub ArePickedBelow : List ℕ → Validity → List Row → List Row → Type 0
+ArePickedBelow ps v old new = masked (picked_validity ps v) new ≡ picked ps (masked v old)
+
+-- the texts at places
+pub record IsPickedTexts (ps : List ℕ) (v : Validity) (old new : TextBytes) : Type 0 where
+  pub count : length (text_pieces new) ≡ length ps
+  pub same : ArePickedBelow ps v (map bytes_row (text_pieces old)) (map bytes_row (text_pieces new))
+
 -- offsets and elements of the lists at places
-pub record IsPickedLists (ps : List ℕ) (offsets : List ℕ) (old : Column) (new : List ℕ) (es : Column) : Type 0 where
+pub record IsPickedLists (ps : List ℕ) (v : Validity) (offsets : List ℕ) (old : Column) (new : List ℕ) (es : Column) : Type 0 where
   pub shape : AreOffsets (length ps) (length es.rows) new
-  pub same : pieces new es.rows ≡ picked ps (pieces offsets old.rows)
+  pub same : ArePickedBelow ps v (list_rows offsets old.rows) (list_rows new es.rows)
   pub dtype : es.dtype ≡ old.dtype
   pub canonical : is_canonical old.node ≡ true → is_canonical es.node ≡ true
 
 -- rows at places, held under the same type
-pub record IsPickedContent (t : Term) (ps : List ℕ) (n : ℕ) (old new : Content) : Type 0 where
+pub record IsPickedContent (t : Term) (ps : List ℕ) (n : ℕ) (v : Validity) (old new : Content) : Type 0 where
   pub shape : IsShaped new t (length ps)
-  pub rows : content_rows new t (length ps) ≡ picked ps (content_rows old t n)
+  pub rows : ArePickedBelow ps v (content_rows old t n) (content_rows new t (length ps))
   pub canonical : is_plain_content old ≡ true → is_plain_content new ≡ true

@@ -1,10 +1,10 @@
-use Rattle.std.proofs.Common.{◌≡◌, ◌≤◌, ◌+◌, ◌*◌, ◌++◌, true, List, length}
+use Rattle.std.proofs.Common.{◌≡◌, ◌≤◌, ◌+◌, ◌*◌, ◌++◌, ℕ, List, length}
 use Rattle.std.specs.List.{AllByRecursion}
 use Rattle.vortex_array.specs.ArrayNode.{array_node_count, array_nodes_count, array_nodes_before, no_array_nodes}
 use Rattle.vortex_array.specs.Column.{Column}
 use Rattle.vortex_array.specs.Content.{column_nodes, content_node}
 use Rattle.vortex_array.specs.inner.Picked.{ArePickedColumns}
-use Rattle.vortex_array.specs.inner.PickedPlaces.{any_pieces, places_in}
+use Rattle.vortex_array.specs.inner.PickedPlaces.{places_in, AnyMuch}
 use Rattle.vortex_array.proofs.pick.+pick.Given as goal
 
 abbrev pub decreases-pick : goal.decreases-pick
@@ -30,7 +30,7 @@ invariant-picked_fields-loop-rest l = record {
   long : AllByRecursion (λ (a : Column). length a.rows ≡ l.n) l.rest;
   fewer : array_nodes_count (array_nodes_before (column_nodes l.rest) no_array_nodes)
       ≤ array_nodes_count (array_nodes_before (column_nodes l.fields) no_array_nodes);
-  pieces : any_pieces l.rest ≡ true → any_pieces l.fields ≡ true;
+  much : (ps : List ℕ) → AnyMuch l.rest ps → AnyMuch l.fields ps;
 }
 
 abbrev pub decreases-picked_fields-loop-rest : goal.decreases-picked_fields-loop-rest
