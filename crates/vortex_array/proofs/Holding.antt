@@ -1,10 +1,10 @@
 -- Rows that are too much, by how they are held.
-use Rattle.std.proofs.Common.{◌≡◌, ◌≤◌, ◌<◌, ◌*◌, inl, inr, ℕ, suc, List, [], ◌∷◌, Bool, true, false, Some, None, map, length, refl, sym, ap, subst, ◌∙◌, arith, Vec, Global}
+use Rattle.std.proofs.Common.{◌≡◌, ◌<◌, ◌*◌, inl, inr, ℕ, List, [], ◌∷◌, Bool, true, false, Some, None, map, length, refl, sym, ap, subst, ◌∙◌, Vec, Global}
 use Rattle.std.specs.declared.rc.Rc.{Rc}
 use Rattle.std.specs.List.{AllByRecursion, flat_map}
-use Rattle.std.proofs.lemmas.List.{length-map, length-replicate}
+use Rattle.std.proofs.lemmas.List.{length-map}
 use Rattle.vortex_terms.specs.Term.{Term, null, boolean, primitive, decimal, utf8, binary, structure, list, extension, fixed_size_list, Fields, no_fields, field}
-use Rattle.vortex_terms.specs.Row.{Row, list_row, Rows, no_rows, row}
+use Rattle.vortex_terms.specs.Row.{Row, list_row, no_rows, row}
 use Rattle.vortex_terms.specs.Fits.{Fits}
 use Rattle.vortex_terms.specs.Parts.{inner_rows}
 use Rattle.vortex_terms.specs.FromColumns.{zip_map, list_rows, masked, inside_structs, struct_rows}
@@ -14,7 +14,7 @@ use Rattle.vortex_node_rows.proofs.Lists.{length-chunks}
 use Rattle.vortex_leaves.specs.Texts.{TextBytes}
 use Rattle.vortex_array.specs.Column.{Column}
 use Rattle.vortex_array.specs.Content.{column_rows, AreFields, is_maskable, IsMask, IsShaped}
-use Rattle.vortex_array.specs.Taken.{AreRows, FieldsHoldMuch, HoldsMuch}
+use Rattle.vortex_array.specs.Taken.{FieldsHoldMuch, HoldsMuch}
 use Rattle.vortex_array.specs.declared.held.Content.TheVariants.{Texts, Lists, FixedLists, Structs, Storage}
 use Rattle.vortex_array.specs.inner.Picked.{picked, picked_validity}
 use Rattle.vortex_array.specs.inner.PickedPlaces.{AnyMuch, ColumnMuch, ContentMuch, ListsMuch, TextsMuch}

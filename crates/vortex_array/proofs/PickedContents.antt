@@ -1,13 +1,12 @@
 -- What is picked of how rows are held is how the rows that are picked are held.
 use Rattle.std.proofs.Common.{◌≡◌, ◌≤◌, ◌<◌, ◌-◌, ◌*◌, ℕ, suc, List, [], ◌∷◌, Bool, true, Some, None, map, length, refl, sym, ap, subst, ◌∙◌, arith, Vec, Global}
 use Rattle.std.specs.declared.rc.Rc.{Rc}
-use Rattle.std.specs.Prelude.{if◌then◌else◌}
 use Rattle.std.specs.List.{AllByRecursion}
 use Rattle.std.proofs.lemmas.List.{length-map, length-replicate}
 use Rattle.vortex_terms.specs.Term.{Term, null, boolean, primitive, decimal, utf8, binary, structure, list, extension, fixed_size_list, Fields, no_fields, field}
 use Rattle.vortex_terms.specs.Row.{Row, null_row, truth_row, bytes_row, list_row, no_rows, row, rows_from, copies}
 use Rattle.vortex_terms.specs.Fits.{Fits}
-use Rattle.vortex_terms.specs.FromColumns.{zip_map, masked, pieces, inside_structs}
+use Rattle.vortex_terms.specs.FromColumns.{zip_map, masked, inside_structs}
 use Rattle.vortex_scalar_value.specs.Value.{ValueTerm}
 use Rattle.vortex_value_rows.specs.RowOf.{row_under}
 use Rattle.vortex_types.specs.DTypes.{term_of}
@@ -23,7 +22,7 @@ use Rattle.vortex_leaves.proofs.Rising.{length-first_chunks, length-pieces}
 use Rattle.vortex_array.specs.Column.{Column}
 use Rattle.vortex_array.specs.ArrayNode.{array_node_count, ArrayNode, ArrayNodes, no_array_nodes, array_nodes_count, array_nodes_before}
 use Rattle.vortex_array.specs.Content.{column_nodes, content_node, content_rows, column_rows, column_of, AreFields, is_maskable, IsMask, IsShaped, IsArray}
-use Rattle.vortex_array.specs.inner.Picked.{is_plain_content, picked, picked_validity, ArePickedBelow, ArePickedColumns, IsPickedColumn, IsPickedContent, IsPickedLists, IsPickedMask, IsPickedTexts}
+use Rattle.vortex_array.specs.inner.Picked.{is_plain_content, picked, ArePickedColumns, IsPickedColumn, IsPickedContent, IsPickedLists, IsPickedMask, IsPickedTexts}
 use Rattle.vortex_array.specs.inner.Spans.{spans, AreStarts}
 use Rattle.vortex_array.specs.declared.held.Content.{Content}
 use Rattle.vortex_array.specs.declared.held.Content.TheVariants.{Nulls, Truths, Numbers, Decimals, Texts, Lists, FixedLists, Structs, Storage, Constant}

@@ -13,7 +13,6 @@ use Rattle.vortex_mask.specs.Truths.{kept, places_from, places_of}
 use Rattle.vortex_leaves.specs.Numbers.{NumberBytes, number_rows}
 use Rattle.vortex_leaves.specs.Selected.{AreNumbersOf, taken_rows}
 use Rattle.vortex_array.specs.declared.error.ArrayError.{ArrayError}
-use Rattle.vortex_array.specs.declared.error.ArrayError.TheVariants.{OutOfMemory}
 use Rattle.vortex_array.specs.declared.pick_rows.Picks.{Picks}
 use Rattle.vortex_array.specs.declared.pick_rows.Picks.TheVariants.{Range, Mask, Places}
 use Rattle.vortex_array.specs.declared.pick_parts.Parts.{Parts}

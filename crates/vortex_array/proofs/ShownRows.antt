@@ -1,9 +1,9 @@
 -- Rows at places under a mask, where those that it hides hold nothing.
-use Rattle.std.proofs.Common.{◌≡◌, ◌≤◌, ◌<◌, ◌+◌, ◌-◌, inl, inr, ◌⊎◌, ℕ, zero, suc, List, [], ◌∷◌, ◌++◌, Bool, true, false, Some, None, map, length, take, get_or, if◌then◌else◌, refl, sym, ap, subst, ◌∙◌, arith, length-append}
-use Rattle.std.specs.List.{AllByRecursion, flat_map, sum, sum_by}
-use Rattle.std.proofs.lemmas.List.{append-nil, append_assoc, length-map, take_more}
+use Rattle.std.proofs.Common.{◌≡◌, ◌≤◌, ◌<◌, ◌+◌, ◌-◌, inl, inr, ℕ, zero, suc, List, [], ◌∷◌, ◌++◌, Bool, true, false, Some, None, map, length, take, get_or, if◌then◌else◌, refl, sym, ap, subst, ◌∙◌, arith}
+use Rattle.std.specs.List.{flat_map, sum, sum_by}
+use Rattle.std.proofs.lemmas.List.{append-nil, length-map, take_more}
 use Rattle.std.proofs.lemmas.List.Sums.{sum_by-cons}
-use Rattle.vortex_terms.specs.Row.{Row, null_row, bytes_row, list_row, row_list, rows_from}
+use Rattle.vortex_terms.specs.Row.{Row, null_row, bytes_row, list_row, rows_from}
 use Rattle.vortex_terms.specs.Parts.{byte_count, inner_rows}
 use Rattle.vortex_terms.specs.RowLaws.{row_list-from}
 use Rattle.vortex_terms.specs.FromColumns.{zip_map, masked}
@@ -13,7 +13,7 @@ use Rattle.vortex_leaves.specs.Selected.{is_shown, shown_piece, shown_size, size
 use Rattle.vortex_leaves.proofs.Joined.{length-joined}
 use Rattle.vortex_array.specs.Content.{IsMask}
 use Rattle.vortex_array.specs.Taken.{MayPass, Repeats, StandsIn}
-use Rattle.vortex_array.specs.inner.Picked.{at_onto, picked, picked_validity, shown_places, ArePickedBelow, IsPickedMask}
+use Rattle.vortex_array.specs.inner.Picked.{picked, picked_validity, shown_places, ArePickedBelow, IsPickedMask}
 use Rattle.vortex_array.proofs.PickLaws.{Below, picked-zip}
 use Rattle.vortex_array.proofs.PickPlaces.{at_onto-get, picked-taken}
 
@@ -154,9 +154,13 @@ bytes_taken : (v : Validity) (ws : List (List ℕ)) (ps : List ℕ)
     → sum_by byte_count (map (shown_row bytes_row v ws) ps) ≡ sum (map length (taken_pieces v ps ws))
 bytes_taken v ws [] = refl
 bytes_taken v ws (p ∷ ps) =
-    omega (arith, sum_by-cons byte_count (shown_row bytes_row v ws p) (map (shown_row bytes_row v ws) ps),
-    sum_by-cons (λ x. x) (length (shown_piece v ws p)) (map length (taken_pieces v ps ws)),
-    bytes_shown (is_shown v p) (get_or ws p []), bytes_taken v ws ps)
+    omega (
+      arith,
+      sum_by-cons byte_count (shown_row bytes_row v ws p) (map (shown_row bytes_row v ws) ps),
+      sum_by-cons (λ x. x) (length (shown_piece v ws p)) (map length (taken_pieces v ps ws)),
+      bytes_shown (is_shown v p) (get_or ws p []),
+      bytes_taken v ws ps,
+    )
 
 -- texts at places have the bytes that are joined
 pub bytes_picked : (nl : Bool) (v : Validity) (ws : List (List ℕ)) (ps : List ℕ) → IsMask (length ws) nl v → Below (length ws) ps

@@ -1,6 +1,6 @@
 -- Why rows at places are not taken.
-use Rattle.std.proofs.Common.{◌≡◌, ◌<◌, inl, inr, List, sym, subst, Bor, ℕ, length}
-use Rattle.vortex_terms.specs.Row.{Row, null_row}
+use Rattle.std.proofs.Common.{inl, inr, List, sym, subst, Bor, ℕ, length}
+use Rattle.vortex_terms.specs.Row.{null_row}
 use Rattle.vortex_array.specs.Column.{Column}
 use Rattle.vortex_array.specs.Taken.{HoldsMuch, RefusesTake}
 use Rattle.vortex_array.specs.declared.error.ArrayError.{ArrayError}

@@ -4,7 +4,7 @@
 --     RefusesTake    why rows at places are not taken
 use Rattle.std.specs.Prelude.{◌≡◌, ◌<◌, ◌*◌, ◌⊎◌, ℕ, List, [], ◌∷◌, map, length}
 use Rattle.std.specs.List.{AllByRecursion, flat_map, sum_by}
-use Rattle.vortex_terms.specs.Term.{Term, utf8, binary, structure, list, extension, fixed_size_list, Fields, no_fields, field}
+use Rattle.vortex_terms.specs.Term.{Term, utf8, binary, structure, list, extension, fixed_size_list, Fields, field}
 use Rattle.vortex_terms.specs.Row.{Row, list_row, rows_from}
 use Rattle.vortex_terms.specs.Fits.{Fits}
 use Rattle.vortex_terms.specs.Parts.{byte_count, inner_rows}
