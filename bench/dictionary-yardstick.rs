@@ -64,6 +64,111 @@ fn numbers_by<S: std::hash::BuildHasher + Default>(values: &[u64]) -> u64 {
     sum(&codes)
 }
 
+/// Twelve lanes of the index of the proved map: the tag of each hash, 0 where the lane is free, and the place of the entry.
+#[derive(Clone)]
+struct Group {
+    tags: [u8; 16],
+    places: [u32; 12],
+}
+
+impl Group {
+    #[inline(always)]
+    fn lanes_of(&self, tag: u8) -> u32 {
+        use std::arch::x86_64::*;
+        let same = unsafe { _mm_cmpeq_epi8(_mm_loadu_si128(self.tags.as_ptr().cast()), _mm_set1_epi8(tag as i8)) };
+        unsafe { _mm_movemask_epi8(same) as u32 & 0xfff }
+    }
+}
+
+/// The table of the proved map: keys and values side by side in the order in which they came, and an index of groups.
+#[derive(Default)]
+struct Dense {
+    groups: Vec<Group>,
+    hashes: Vec<u32>,
+    keys: Vec<u64>,
+    codes: Vec<u32>,
+}
+
+impl Dense {
+    #[inline(always)]
+    fn find(&self, hash: u32, key: u64) -> Option<u32> {
+        if self.groups.is_empty() {
+            return None;
+        }
+        let (mask, tag) = (self.groups.len() - 1, tag_of(hash));
+        let mut at = hash as usize & mask;
+        loop {
+            let group = &self.groups[at];
+            let mut lanes = group.lanes_of(tag);
+            while lanes != 0 {
+                let place = group.places[lanes.trailing_zeros() as usize] as usize;
+                if self.keys[place] == key {
+                    return Some(self.codes[place]);
+                }
+                lanes &= lanes - 1;
+            }
+            let overflow = u32::from_le_bytes(group.tags[12..].try_into().unwrap());
+            if overflow >> (tag & 31) & 1 == 0 {
+                return None;
+            }
+            at = (at + 1) & mask;
+        }
+    }
+    #[inline(never)]
+    fn add(&mut self, hash: u32, key: u64, code: u32) {
+        if self.keys.len() == 9 * self.groups.len() {
+            self.groups = vec![Group { tags: [0; 16], places: [0; 12] }; (2 * self.groups.len()).max(1)];
+            for place in 0..self.hashes.len() {
+                self.put(self.hashes[place], place as u32);
+            }
+        }
+        self.put(hash, self.keys.len() as u32);
+        self.hashes.push(hash);
+        self.keys.push(key);
+        self.codes.push(code);
+    }
+    fn put(&mut self, hash: u32, place: u32) {
+        let (mask, tag) = (self.groups.len() - 1, tag_of(hash));
+        let mut at = hash as usize & mask;
+        loop {
+            let group = &mut self.groups[at];
+            let free = group.lanes_of(0);
+            if free != 0 {
+                let lane = free.trailing_zeros() as usize;
+                group.tags[lane] = tag;
+                group.places[lane] = place;
+                return;
+            }
+            group.tags[12 + usize::from(tag & 31) / 8] |= 1 << (tag & 7);
+            at = (at + 1) & mask;
+        }
+    }
+}
+
+fn tag_of(hash: u32) -> u8 {
+    ((hash >> 24) as u8).max(1)
+}
+
+#[inline(never)]
+fn numbers_by_table(values: &[u64]) -> u64 {
+    let mut table = Dense::default();
+    let mut distinct: Vec<Option<u64>> = Vec::new();
+    let mut codes: Vec<u64> = Vec::with_capacity(values.len());
+    for value in values {
+        let mut hasher = Fold::default();
+        hasher.write_u64(*value);
+        let hash = (hasher.finish() ^ hasher.finish() >> 32) as u32;
+        let place = table.find(hash, *value).unwrap_or_else(|| {
+            let place = distinct.len() as u32;
+            table.add(hash, *value, place);
+            distinct.push(Some(*value));
+            place
+        });
+        codes.push(u64::from(place));
+    }
+    sum(&codes)
+}
+
 fn fnv(key: &[u8]) -> u64 {
     key.iter().fold(14_695_981_039_346_656_037, |hash, byte| (hash ^ u64::from(*byte)).wrapping_mul(1_099_511_628_211))
 }
@@ -174,7 +279,8 @@ fn main() {
     for _ in 0..repeats {
         let begin = Instant::now();
         answer = match words[1].as_str() {
-            "numbers" => numbers_by::<BuildHasherDefault<Fold>>(&values),
+            "numbers" => numbers_by_table(&values),
+            "numbers-fold" => numbers_by::<BuildHasherDefault<Fold>>(&values),
             "numbers-map" => numbers_by::<std::collections::hash_map::RandomState>(&values),
             "texts" => texts_by_table(&texts),
             _ => texts_by_map(&texts),

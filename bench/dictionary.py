@@ -252,7 +252,7 @@ def main():
             rows = picked(chosen.rows, distinct, source)
             kept = [source.randrange(WORD) for _ in range(distinct)]
             numbers_file(path, [kept[row] for row in rows])
-            compare(f"numbers, {distinct} distinct", "numbers", ["numbers", "numbers-map"], path, chosen.rows, built, yardstick, chosen.repeat)
+            compare(f"numbers, {distinct} distinct", "numbers", ["numbers", "numbers-fold", "numbers-map"], path, chosen.rows, built, yardstick, chosen.repeat)
             for least, most in ((4, 15), (32, 75)):
                 kept = [made_text(number, least, most) for number in range(distinct)]
                 texts_file(path, [kept[row] for row in rows])
