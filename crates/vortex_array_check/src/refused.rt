@@ -2,7 +2,10 @@
 
 use crate::makers::{MAY, NOT, bytes, mask};
 use std::alloc::Global;
-use vortex_array::{ArrayError, BoolArray, ConstantArray, ExtArray, FixedSizeListArray, ListArray, NullArray, PrimitiveArray, StructArray, VarBinArray};
+use vortex_array::{
+    ArrayError, BoolArray, ConstantArray, ExtArray, FixedSizeListArray, ListArray, NullArray,
+    PrimitiveArray, StructArray, VarBinArray,
+};
 use vortex_buffer::ByteBuffer;
 use vortex_names::{ExtID, FieldNames, Nullability};
 use vortex_number::PType;
