@@ -21,7 +21,7 @@ use Rattle.vortex_array.specs.inner.ComparedRows.{row_in, row_truth}
 use Rattle.vortex_array.proofs.HeldRows.{held_count}
 use Rattle.vortex_array.proofs.ValidLists.{HasCount, shown_place}
 
-hidden_in : (v : Validity) (rs : List Row) (i : ℕ) → valid_at v i ≡ false → row_in (masked v rs) i ≡ null_row
+pub hidden_in : (v : Validity) (rs : List Row) (i : ℕ) → valid_at v i ≡ false → row_in (masked v rs) i ≡ null_row
 hidden_in None rs i h = absurd (true≢false h)
 hidden_in (Some m) rs i h = by m rs i h
   where
@@ -31,7 +31,7 @@ hidden_in (Some m) rs i h = by m rs i h
     by (b ∷ m) (r ∷ rs) zero h = ap (λ (c : Bool). if c then r else null_row) h
     by (b ∷ m) (r ∷ rs) (suc i) h = by m rs i h
 
-shown_in : (v : Validity) (rs : List Row) (i : ℕ) (r : Row) → IfSome v (λ m. i < length m) → valid_at v i ≡ true
+pub shown_in : (v : Validity) (rs : List Row) (i : ℕ) (r : Row) → IfSome v (λ m. i < length m) → valid_at v i ≡ true
     → slice_get rs i ≡ Some r → row_in (masked v rs) i ≡ r
 shown_in None rs i r below valid e = get_or_from_slice_get rs i r null_row e
 shown_in (Some m) rs i r below valid e =
@@ -71,7 +71,7 @@ numbers_many : (a : Inside) (b : NumberBytes) → IsArray a → a.held.content �
 numbers_many a b h e =
     numbers_count b (term_of a.dtype) a.len (subst (λ (x : Content). IsShaped x (term_of a.dtype) a.len) e h.shape)
 
-mask_many : (v : Validity) (n k : ℕ) → HasCount n v → k ≡ n → IfSome v (λ m. length m ≡ k)
+pub mask_many : (v : Validity) (n k : ℕ) → HasCount n v → k ≡ n → IfSome v (λ m. length m ≡ k)
 mask_many None n k h e = tt
 mask_many (Some m) n k h e = h ∙ sym e
 

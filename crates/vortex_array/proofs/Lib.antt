@@ -31,5 +31,14 @@ pub mod ComparedLists
 pub mod Agreements
 pub mod PlainNodes
 pub mod ComparedNumbers
+pub mod ComparedTexts
+pub mod ValueFits
+pub mod PlainContents
+pub mod ValueLists
+pub mod ValueRefusals
+pub mod CanonicalRows
+pub mod RepeatedRows
+pub mod PlainHeld
+pub mod PlainLeaves
 pub mod WorkedTakes
 pub mod TakenRows

@@ -55,7 +55,7 @@ before_plain [] v e = e
 before_plain (n ∷ ns) v e = ap (λ (b : Bool). is_canonical n && b) (before_plain ns v e)
 
 -- a mask adds no constant
-content_plain : (n : ℕ) (v : ArrayNodes) (c : Content) → are_canonical v ≡ true
+pub content_plain : (n : ℕ) (v : ArrayNodes) (c : Content) → are_canonical v ≡ true
     → is_canonical (content_node c n v) ≡ is_plain_content c
 content_plain n v Nulls e = e
 content_plain n v (Truths m) e = e

@@ -5,3 +5,5 @@ pub mod PickedPlaces
 pub mod ComparedRows
 pub mod AlikeRows
 pub mod Agreeing
+pub mod PlainValues
+pub mod SameRows

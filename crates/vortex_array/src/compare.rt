@@ -15,6 +15,7 @@ ghost use Rattle.vortex_array.specs.inner.Masks.{IsTaken};
 ghost use Rattle.vortex_array.specs.inner.ComparedRows.{known_rows, row_in, row_truth, row_truths};
 
 use crate::compare_numbers::number_truths;
+use crate::compare_texts::text_truths;
 use crate::error::ArrayError;
 use crate::held::{Array, Content, Held};
 use std::alloc::Global;
@@ -111,7 +112,7 @@ impl Array {
         }
     }
 
-    /// The same of each row, where numbers are compared with a number by a loop of their own.
+    /// The same of each row, where numbers and texts are compared by loops of their own.
     fn row_truths<L: Ledger>(
         &self,
         alloc: Global,
@@ -133,6 +134,12 @@ impl Array {
             if let RowRef::Whole(number) = other {
                 let validity = &self.held.validity;
                 return number_truths(alloc, numbers, validity, number, operator, steps);
+            }
+        }
+        if let Content::Texts(texts) = &self.held.content {
+            if let RowRef::Bytes(bytes) = other {
+                let validity = &self.held.validity;
+                return text_truths(alloc, texts, validity, bytes, operator, steps);
             }
         }
         self.single_truths(alloc, value, operator, steps)

@@ -23,7 +23,7 @@ use vortex_scalar_value::ScalarValue;
 use vortex_types::DType;
 
 /// The mask of the rows that are picked, where there is one.
-fn picked_mask(
+pub(crate) fn picked_mask(
     alloc: Global,
     validity: &Option<Mask>,
     n: usize,
@@ -53,7 +53,7 @@ pub(crate) fn same_value(alloc: Global, value: &ScalarValue) -> Result<ScalarVal
     }
 }
 
-fn same_type(alloc: Global, dtype: &DType) -> Result<DType, ArrayError>
+pub(crate) fn same_type(alloc: Global, dtype: &DType) -> Result<DType, ArrayError>
     ensures { MatchResult result (λ t. term_of t ≡ term_of dtype.now)
         (λ e. e ≡ ArrayError.OutOfMemory) }
 {
@@ -65,7 +65,7 @@ fn same_type(alloc: Global, dtype: &DType) -> Result<DType, ArrayError>
 
 /// How the rows that are picked are held, under their mask. Buffers of a range stay shared.
 #[cycle(pick)]
-fn picked_content(
+pub(crate) fn picked_content(
     alloc: Global,
     dtype: &DType,
     content: &Content,
@@ -163,7 +163,7 @@ fn picked_lists(
 
 /// The elements of the lists that are picked, of n lists.
 #[cycle(pick)]
-fn picked_elements(
+pub(crate) fn picked_elements(
     alloc: Global,
     elements: &Array,
     parts: &Parts,

@@ -77,7 +77,7 @@ pub(crate) fn spread_mask(
 }
 
 /// The places from one up to another, behind others.
-fn followed(given: Vec<u32>, from: usize, to: usize) -> Result<Vec<u32>, ArrayError>
+pub(crate) fn followed(given: Vec<u32>, from: usize, to: usize) -> Result<Vec<u32>, ArrayError>
     requires rise { from ≤ to }
     requires few { to ≤ most_rows }
     ensures { MatchResult result (λ v. v.items ≡ given.items ++ from_on (to - from) from)
