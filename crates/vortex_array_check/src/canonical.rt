@@ -3,6 +3,7 @@
 use crate::makers::{Kind, made};
 use crate::rows::prints;
 use std::alloc::Global;
+use vortex_array::ToCanonical;
 
 /// An array, the encoding of the same rows without constants, and the rows.
 type Row = (Kind, &'static str, &'static str);

@@ -6,7 +6,7 @@ use crate::makers::{Kind, NOT, made};
 use std::alloc::Global;
 use std::marker::Brand;
 use std::sync::ledger::{Blank, Ledger};
-use vortex_array::{Array, ArrayError};
+use vortex_array::{Array, ArrayError, Compare};
 use vortex_scalar::Scalar;
 use vortex_steps::Steps;
 use vortex_value::Operator;

@@ -5,14 +5,14 @@ ghost use Rattle.vortex_terms.specs.Row.{null_row, whole_row, truth_row};
 ghost use Rattle.vortex_terms.specs.Term.{null, boolean, binary, list, fixed_size_list, utf8};
 ghost use Rattle.vortex_value.specs.declared.operator.Operator.TheVariants as operator;
 ghost use Rattle.vortex_leaves.specs.Selected.{taken_rows};
-ghost use Rattle.vortex_array.specs.Compared.{compared_rows};
-ghost use Rattle.vortex_array.specs.ErrorNumber.{error_number};
-ghost use Rattle.vortex_array.specs.MadeLeaves.{constant_refusal, leaf_refusal, made_nulls};
-ghost use Rattle.vortex_array.specs.MadeLeaves.{takes_pieces, texts_refusal};
-ghost use Rattle.vortex_array.specs.MadeNested.{extensions_refusal, fixed_lists_refusal};
-ghost use Rattle.vortex_array.specs.MadeNested.{lists_refusal, made_fixed_lists, made_lists};
-ghost use Rattle.vortex_array.specs.ValidRows.{valid_rows};
-ghost use Rattle.vortex_array.specs.declared.error.ArrayError.TheVariants as error;
+ghost use Rattle.vortex_array_compare.specs.Compared.{compared_rows};
+ghost use Rattle.vortex_array_data.specs.ErrorNumber.{error_number};
+ghost use Rattle.vortex_array_make.specs.MadeLeaves.{constant_refusal, leaf_refusal, made_nulls};
+ghost use Rattle.vortex_array_make.specs.MadeLeaves.{takes_pieces, texts_refusal};
+ghost use Rattle.vortex_array_make.specs.MadeNested.{extensions_refusal, fixed_lists_refusal};
+ghost use Rattle.vortex_array_make.specs.MadeNested.{lists_refusal, made_fixed_lists, made_lists};
+ghost use Rattle.vortex_array_data.specs.ValidRows.{valid_rows};
+ghost use Rattle.vortex_array_data.specs.declared.error.ArrayError.TheVariants as error;
 
 /// Rows that are not null, rows at places, and rows compared with a number and with null. It does
 /// nothing when the program runs.

@@ -7,7 +7,7 @@ use Rattle.vortex_dtype.specs.DTypes.{term_of}
 use Rattle.vortex_body.specs.Node.{Node}
 use Rattle.vortex_node_rows.specs.Encodings.{encoding_in}
 use Rattle.vortex_node_rows.specs.RowsOf.{rows_of}
-use Rattle.vortex_array.specs.Column.{Column}
+use Rattle.vortex_array_data.specs.Column.{Column}
 use Rattle.vortex_stream.specs.Header.{Content, array_content, buffer_content, type_content, kind_of}
 use Rattle.vortex_stream.specs.declared.counts.SourceCounts.{SourceCounts}
 use Rattle.vortex_stream.specs.declared.kind.MessageKind.{MessageKind}

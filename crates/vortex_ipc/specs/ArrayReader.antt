@@ -3,7 +3,7 @@ use Rattle.std.specs.Prelude.{⊤, ◌≡◌, ◌⊎◌, Bool, ℕ, List, Option
 use Rattle.vortex_terms.specs.Term.{Term}
 use Rattle.vortex_node_rows.specs.Encodings.{encoding_in}
 use Rattle.vortex_node_rows.specs.RowsOf.{rows_of}
-use Rattle.vortex_array.specs.Column.{Column}
+use Rattle.vortex_array_data.specs.Column.{Column}
 use Rattle.vortex_stream.specs.declared.counts.SourceCounts.{SourceCounts}
 use Rattle.vortex_stream.specs.declared.kind.MessageKind.TheVariants as kinds
 use Rattle.vortex_stream.specs.declared.error.IpcError.{IpcError}

@@ -1,7 +1,0 @@
-use Rattle.std.proofs.Common.{◌≡◌}
-use Rattle.vortex_array.specs.inner.SameRows.{value_where}
-use Rattle.vortex_array.proofs.RepeatedRows.{first_rows}
-use Rattle.vortex_array.proofs.canonical_values.each_value.Given as goal
-
-abbrev pub invariant-loop-i : goal.invariant-loop-i
-invariant-loop-i l = l.out.items ≡ first_rows (value_where l.value) l.i l.validity

@@ -1,7 +1,0 @@
-use Rattle.std.proofs.Common.{◌≡◌, take}
-use Rattle.vortex_array.specs.inner.PickedPlaces.{start_in}
-use Rattle.vortex_array.specs.inner.Spans.{spans}
-use Rattle.vortex_array.proofs.pick_parts.spread_places.Given as goal
-
-abbrev pub invariant-loop-place : goal.invariant-loop-place
-invariant-loop-place l = l.out.items ≡ spans (start_in l.parts) (take l.place-index l.places)

@@ -1,7 +1,0 @@
-use Rattle.std.proofs.Common.{◌≡◌, take}
-use Rattle.std.specs.List.{flat_map}
-use Rattle.vortex_array.specs.inner.PlainValues.{bytes_in}
-use Rattle.vortex_array.proofs.plain_leaves.all_bytes.Given as goal
-
-abbrev pub invariant-loop-value : goal.invariant-loop-value
-invariant-loop-value l = l.out.items ≡ flat_map bytes_in (take l.value-index l.values)

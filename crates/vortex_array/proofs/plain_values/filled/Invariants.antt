@@ -1,6 +1,0 @@
-use Rattle.std.proofs.Common.{◌≡◌, map, take}
-use Rattle.vortex_array.specs.inner.PlainValues.{filled}
-use Rattle.vortex_array.proofs.plain_values.filled.Given as goal
-
-abbrev pub invariant-loop-value : goal.invariant-loop-value
-invariant-loop-value l = l.out.items ≡ map (filled l.other) (take l.value-index l.values)

@@ -1,6 +1,0 @@
-use Rattle.std.proofs.Common.{◌≡◌, map, take}
-use Rattle.vortex_array.specs.inner.PlainValues.{truth_in}
-use Rattle.vortex_array.proofs.plain_values.truth_values.Given as goal
-
-abbrev pub invariant-loop-value : goal.invariant-loop-value
-invariant-loop-value l = l.mask ≡ map truth_in (take l.value-index l.values)

@@ -1,9 +1,0 @@
-pub mod Picked
-pub mod Masks
-pub mod Spans
-pub mod PickedPlaces
-pub mod ComparedRows
-pub mod AlikeRows
-pub mod Agreeing
-pub mod PlainValues
-pub mod SameRows

@@ -1,0 +1,2 @@
+pub mod CanonicalRows
+pub mod RepeatedRows

@@ -1,0 +1,2 @@
+pub mod ComparedRows
+pub mod AlikeRows

@@ -1,0 +1,13 @@
+pub mod ArrayNode
+pub mod Constants
+pub mod Column
+pub mod Content
+pub mod Falls
+pub mod Answers
+pub mod Makes
+pub mod Taken
+pub mod ValidRows
+pub mod PartColumns
+pub mod ValuesAt
+pub mod ErrorNumber
+pub mod inner

@@ -1,0 +1,4 @@
+pub mod Picked
+pub mod Masks
+pub mod Spans
+pub mod PickedPlaces

@@ -1,0 +1,4 @@
+pub mod Decoded
+pub mod Agreement
+pub mod WorkedAgreement
+pub mod inner

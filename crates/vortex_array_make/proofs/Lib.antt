@@ -1,0 +1,4 @@
+pub mod NestedRows
+pub mod OffsetTests
+pub mod NestedMade
+pub mod MadeLeaves

@@ -1,0 +1,2 @@
+pub mod MadeLeaves
+pub mod MadeNested

@@ -1,0 +1,6 @@
+pub mod ValueFits
+pub mod PlainContents
+pub mod ValueLists
+pub mod ValueRefusals
+pub mod PlainHeld
+pub mod PlainLeaves

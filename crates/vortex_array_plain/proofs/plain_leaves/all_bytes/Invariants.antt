@@ -1,0 +1,7 @@
+use Rattle.std.proofs.Common.{◌≡◌, take}
+use Rattle.std.specs.List.{flat_map}
+use Rattle.vortex_array_plain.specs.PlainValues.{bytes_in}
+use Rattle.vortex_array_plain.proofs.plain_leaves.all_bytes.Given as goal
+
+abbrev pub invariant-loop-value : goal.invariant-loop-value
+invariant-loop-value l = l.out.items ≡ flat_map bytes_in (take l.value-index l.values)

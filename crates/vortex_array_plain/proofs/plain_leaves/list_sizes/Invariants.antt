@@ -1,0 +1,6 @@
+use Rattle.std.proofs.Common.{◌≡◌, length, map, take}
+use Rattle.vortex_array_plain.specs.PlainValues.{values_in}
+use Rattle.vortex_array_plain.proofs.plain_leaves.list_sizes.Given as goal
+
+abbrev pub invariant-loop-value : goal.invariant-loop-value
+invariant-loop-value l = l.out.items ≡ map (λ v. length (values_in v)) (take l.value-index l.values)
