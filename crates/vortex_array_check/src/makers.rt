@@ -75,7 +75,11 @@ fn same_texts(alloc: Global, len: usize) -> Option<Array> {
     constant(alloc, Scalar::utf8(alloc, "ab", NOT).ok(), len)
 }
 
+/// Two nulls, where the type has any.
 fn same_nulls(alloc: Global, dtype: DType) -> Option<Array> {
+    if !dtype.is_nullable() {
+        return None;
+    }
     constant(alloc, Some(Scalar::null(dtype)), 2)
 }
 
