@@ -4,7 +4,7 @@ use Rattle.std.proofs.Common.{◌||◌, nat_le, ◌*◌, map, pos, ℤ, IsTrue, 
 use Rattle.std.proofs.Common.{List, [], ◌∷◌, ◌++◌, length, take, get_or, refl, ap, sym, subst, ◌∙◌}
 use Rattle.std.proofs.Common.{arith, mul-suc}
 use Rattle.std.specs.Bool.{Decides}
-use Rattle.std.specs.Option.{option_eq}
+use Rattle.std.specs.Option.{option_eq, unwrap_or, is_some}
 use Rattle.std.proofs.lemmas.Bool.{cases_lt}
 use Rattle.std.proofs.lemmas.List.{length-map, length-append, length-take-le, get_or_append_left}
 use Rattle.std.proofs.lemmas.List.{get_or-take, take_more}
@@ -13,7 +13,7 @@ use Rattle.std.proofs.Math.Seq.{get_or-append_seam}
 use Rattle.std.specs.declared.cmp.Ordering.{Ordering}
 use Rattle.std.specs.HashMap.{HashMap}
 use Rattle.std.specs.BTreeMap.{BTreeMap, get}
-use Rattle.vortex_codes.specs.Places.{place_of}
+use Rattle.vortex_codes.specs.Places.{place_of, with_key, code_in}
 use Rattle.vortex_codes.proofs.PlaceLemmas.{place_of-push, unplaced_in, none_in}
 use Rattle.std.specs.List.{sum_by}
 use Rattle.std.proofs.lemmas.List.Sums.{sum_by-cons}
@@ -22,7 +22,8 @@ use Rattle.vortex_terms.specs.Row.{Row}
 use Rattle.vortex_dict.specs.declared.constraints.DictConstraints.{DictConstraints}
 use Rattle.vortex_dict.specs.KeyRows.{number_or_null}
 use Rattle.vortex_dict.specs.Limits.{most_values, numbers_over}
-use Rattle.vortex_dict.specs.inner.Numbers.{place_found, HasPlaces}
+use Rattle.vortex_dict.specs.inner.Numbers.{place_in, place_found, HasPlaces}
+use Rattle.vortex_dict.proofs.BytesLemmas.{place_below}
 use Rattle.vortex_dict.proofs.ValueLemmas.{option_eq-Decides}
 
 abbrev Apart : {T : Type 0} → List (Option T) → Type 0
@@ -68,6 +69,52 @@ module _ {T : Type 0} (eq : T → T → Bool) (law : (x y : T) → Decides (eq x
         by : (q : Option T) → place_found eq cmp codes (Some m) null q ≡ place_of same q values
         by None = h.found None
         by (Some q) = i q
+
+  -- a look that finds a value or adds it
+  module _ {S : Type 0} (cmp : T → T → Ordering) (width : ℕ) (values : List (Option T)) (codes : HashMap T ℕ S) (ordered : Option (BTreeMap T ℕ)) (null : Option ℕ) (v : T) (h : HasPlaces eq cmp width values codes ordered null) (by_hash : ordered ≡ None) where
+    looked : place_in eq cmp codes None v ≡ place_of same (Some v) values
+    looked = ap (λ o. place_found eq cmp codes o null (Some v)) (sym by_hash) ∙ h.found (Some v)
+
+    pub place_absent : place_in eq cmp codes None v ≡ None → place_of same (Some v) values ≡ None
+    place_absent n = sym looked ∙ n
+
+    module _ (count place : ℕ) (l : count ≡ length values) (e : place ≡ unwrap_or (place_in eq cmp codes None v) count) where
+      one_code : place ≡ code_in same values (Some v)
+      one_code = e ∙ ap (λ o. unwrap_or o count) looked ∙ ap (unwrap_or (place_of same (Some v) values)) l
+
+      one_new : place ≡ count → place_of same (Some v) values ≡ None
+      one_new p = by (place_of same (Some v) values) refl
+        where
+          by : (o : Option ℕ) → place_of same (Some v) values ≡ o → place_of same (Some v) values ≡ None
+          by None f = f
+          by (Some c) f = absurd (let below = place_below same (Some v) values c f in let at : place ≡ c = one_code ∙ ap (λ o. unwrap_or o (length values)) f in omega (arith, below, at, p, l))
+
+      one_old : (place ≡ count → ⊥) → place_of same (Some v) values ≡ Some place
+      one_old n = by (place_of same (Some v) values) refl
+        where
+          by : (o : Option ℕ) → place_of same (Some v) values ≡ o → place_of same (Some v) values ≡ Some place
+          by None f = absurd (n (one_code ∙ ap (λ o. unwrap_or o (length values)) f ∙ sym l))
+          by (Some c) f = f ∙ ap (λ n. Some n) (sym (one_code ∙ ap (λ o. unwrap_or o (length values)) f))
+
+      abbrev after : Bool → List (Option T)
+      after may = cond may (with_key same values (Some v)) values
+
+      pub one_value : (may : Bool) → may ≡ true → Some place ≡ cond may (Some (code_in same values (Some v))) (place_of same (Some v) values)
+      one_value may t = ap (λ n. Some n) one_code ∙ sym (ap (λ b. cond b (Some (code_in same values (Some v))) (place_of same (Some v) values)) t)
+
+      pub found_values : (may : Bool) (values' : List (Option T)) → may ≡ true → values' ≡ values → (place ≡ count → ⊥) → values' ≡ after may
+      found_values may values' t s n = s ∙ sym (ap after t ∙ ap (λ o. cond (is_some o) values (values ++ Some v ∷ [])) (one_old n))
+
+      pub added_values : (may : Bool) (values' : List (Option T)) → may ≡ true → values' ≡ values ++ Some v ∷ [] → place ≡ count → values' ≡ after may
+      added_values may values' t s n = s ∙ sym (ap after t ∙ ap (λ o. cond (is_some o) values (values ++ Some v ∷ [])) (one_new n))
+
+      pub added_places : (values' : List (Option T)) (codes' : HashMap T ℕ S) → values' ≡ values ++ Some v ∷ [] → place ≡ count → count + 1 < 2 ^ 32 → width * (count + 1) < 2 ^ 32
+          → ((q : T) → place_in eq cmp codes' None q ≡ cond (eq v q) (Some (unwrap_or (place_in eq cmp codes None v) count)) (place_in eq cmp codes None q)) → HasPlaces eq cmp width values' codes' ordered null
+      added_places values' codes' s p f w i = places_more cmp width values values' codes codes' ordered ordered null null (Some v) place h (one_new p) s (p ∙ l) (rw p f) (rw p w) found
+        where
+          found : (q : Option T) → place_found eq cmp codes' ordered null q ≡ cond (same (Some v) q) (Some place) (place_found eq cmp codes ordered null q)
+          found None = refl
+          found (Some q) = rw by_hash (i q ∙ ap (λ n. cond (eq v q) (Some n) (place_in eq cmp codes None q)) (sym e))
 
   some_is : (a b : Option T) → Some a ≡ Some b → a ≡ b
   some_is a b h = cc

@@ -2,10 +2,11 @@
 
 ghost use Rattle.std.specs.Prelude.{◌≡◌, ℕ, ◌+◌, ◌*◌, ◌^◌, ◌<◌, ◌≤◌, ◌↔◌, [], ◌∷◌, ◌++◌, length};
 ghost use Rattle.std.specs.Prelude.{get_or, IfErr, IfOk, OnOk, OnErr, Err, Some, None, IsTrue};
+ghost use Rattle.std.specs.Prelude.{vec_len, vec_capacity};
 ghost use Rattle.std.specs.Prelude.{Option, cond, if◌then◌else◌};
 ghost use Rattle.std.specs.BTreeMap.{get};
 ghost use Rattle.std.specs.List.{IsDistinct};
-ghost use Rattle.std.specs.Option.{option_eq};
+ghost use Rattle.std.specs.Option.{option_eq, unwrap_or};
 ghost use Rattle.vortex_number.specs.PType.{byte_width_of};
 ghost use Rattle.vortex_codes.specs.Places.{place_of, with_key, code_in};
 ghost use Rattle.vortex_codes.specs.Refusals.{IsOfSize};
@@ -60,31 +61,40 @@ const CLASSES: usize = 4096;
 const FEW: usize = 64;
 
 /// Counts a new value, and tells whether its class is crowded. The first few values are not
-/// counted.
-fn is_crowded<T: NativeValue>(
-    classes: &mut Vec<u32>,
-    value: Option<T>,
-    count: usize,
-) -> Result<bool, AllocError> {
+/// counted, nor any for which there is no memory.
+#[inline(always)]
+fn is_crowded<T: NativeValue>(classes: &mut Vec<u32>, value: Option<T>, count: usize) -> bool {
     let Some(value) = value else {
-        return Ok(false);
+        return false;
     };
-    if count < FEW {
-        return Ok(false);
-    }
-    if classes.len() < CLASSES {
-        let alloc = *classes.allocator();
-        *classes = vec![in alloc; 0u32; CLASSES]?;
+    if count < FEW || !are_counted(classes) {
+        return false;
     }
     let mut hasher = FoldHasher::default();
     value.hash(&mut hasher);
     let hash = hasher.finish();
     let class = ((hash ^ (hash >> 32)) & (CLASSES as u64 - 1)) as usize;
     let Some(size) = classes.get_mut(class) else {
-        return Ok(false);
+        return false;
     };
     *size = size.saturating_add(1);
-    Ok(*size as usize > FEW + count / (CLASSES / 2))
+    *size as usize > FEW + count / (CLASSES / 2)
+}
+
+/// Makes the classes where there are none, and tells whether there are some.
+#[inline(always)]
+fn are_counted(classes: &mut Vec<u32>) -> bool {
+    if classes.len() >= CLASSES {
+        return true;
+    }
+    let alloc = *classes.allocator();
+    match vec![in alloc; 0u32; CLASSES] {
+        Ok(made) => {
+            *classes = made;
+            true
+        }
+        Err(_) => false,
+    }
 }
 
 /// The place that the maps have for a value.
@@ -131,6 +141,26 @@ fn insert<T: NativeValue>(
     Ok(())
 }
 
+/// The place of a value, which is this one where the map has none.
+#[inline(always)]
+fn find_or_insert<T: NativeValue>(
+    codes: &mut HashMap<T, u32>,
+    value: T,
+    place: u32,
+) -> Result<u32, AllocError>
+    ensures code { IfOk result (λ p. p ≡ unwrap_or
+        (place_in T.eq T.cmp codes.old None value) place) }
+    ensures inserted { OnOk result ((v : T) → place_in T.eq T.cmp codes.new None v
+        ≡ cond (T.eq value v) (Some (unwrap_or (place_in T.eq T.cmp codes.old None value) place))
+        (place_in T.eq T.cmp codes.old None v)) }
+    ensures stays { OnErr result ((v : T) → place_in T.eq T.cmp codes.new None v
+        ≡ place_in T.eq T.cmp codes.old None v) }
+    ensures absent { OnErr result (place_in T.eq T.cmp codes.old None value ≡ None) }
+{
+    let entry = codes.entry(value)?;
+    Ok(*entry.or_insert(place))
+}
+
 /// Gives a value its place in a map by order.
 fn insert_in_order<T: NativeValue>(
     ordered: &mut BTreeMap<T, u32>,
@@ -166,12 +196,36 @@ fn order_of<T: NativeValue>(
 }
 
 /// Whether a value of this width may come behind so many others.
+#[inline(always)]
 fn has_room(width: usize, count: usize) -> bool
     requires width { width ≤ 8 }
     requires few { count < 2 ^ 32 }
     ensures { IsTrue result ↔ (width * (count + 1) < 2 ^ 32) }
 {
     width * (count + 1) <= u32::MAX as usize
+}
+
+/// Makes room for a value of this width behind the others, and tells whether there is some and
+/// values are found by their hash.
+#[inline(always)]
+fn has_place<T: NativeValue>(
+    ordered: &Option<BTreeMap<T, u32>>,
+    values: &mut Vec<Option<T>>,
+    width: usize,
+) -> bool
+    requires width { width ≤ 8 }
+    requires few { length values.old.items < 2 ^ 32 }
+    ensures stays { values.new.items ≡ values.old.items }
+    ensures room { IsTrue result → vec_len values.new < vec_capacity values.new }
+    ensures small { IsTrue result → width * (length values.old.items + 1) < 2 ^ 32 }
+    ensures few { IsTrue result → length values.old.items + 1 < 2 ^ 32 }
+    ensures by_hash { IsTrue result → ordered.now ≡ None }
+{
+    if ordered.is_some() {
+        return false;
+    }
+    let count = values.len();
+    has_room(width, count) && count < u32::MAX as usize && values.reserve(1).is_ok()
 }
 
 impl<T: NativeValue> Numbers<T> {
@@ -238,7 +292,6 @@ impl<T: NativeValue> Numbers<T> {
             return Err(DictError::OutOfMemory);
         }
         self.values.reserve(1)?;
-        let crowded = is_crowded(&mut self.classes, value, count)?;
         let place = count as u32;
         insert(
             &mut self.codes,
@@ -248,20 +301,82 @@ impl<T: NativeValue> Numbers<T> {
             place,
         )?;
         self.values.push_reserved(value);
+        let crowded = is_crowded(&mut self.classes, value, count);
         Ok(Added { place, crowded })
     }
 
-    /// Finds values by their order from here on, where memory allows.
-    fn put_in_order(&mut self)
+    /// Finds values by their order from here on where a class is crowded, and memory allows.
+    #[inline(always)]
+    fn put_in_order(&mut self, crowded: bool)
         ensures { self.new ≡ self.old }
     {
-        if self.ordered.is_some() {
+        if !crowded || self.ordered.is_some() {
             return;
         }
         let alloc = *self.values.allocator();
         if let Ok(ordered) = order_of(alloc, self.values.as_slice()) {
             self.ordered = Some(ordered);
         }
+    }
+
+    /// The same as `find_or_add`, by a look and then another that adds.
+    #[inline(never)]
+    fn find_then_add(&mut self, value: Option<T>, may_add: bool) -> Result<Option<u32>, DictError>
+        ensures values { OnOk result (self.new ≡ (if may_add
+            then with_key (option_eq T.eq) self.old value else self.old)) }
+        ensures code { IfOk result (λ o. o ≡ (if may_add
+            then Some (code_in (option_eq T.eq) self.old value)
+            else place_of (option_eq T.eq) value self.old)) }
+        ensures stays { OnErr result (self.new ≡ self.old) }
+        ensures new { OnErr result (IsTrue may_add
+            × (place_of (option_eq T.eq) value self.old ≡ None)) }
+        ensures too_large { (result ≡ Err DictError.TooLarge)
+            ↔ (IsTrue may_add × (place_of (option_eq T.eq) value self.old ≡ None)
+            × (2 ^ 32 ≤ byte_width_of T.PTYPE * (length self.old + 1))) }
+        ensures errors { IfErr result (λ e. IsOfSize e) }
+    {
+        let found = self.place(value);
+        if found.is_some() || !may_add {
+            return Ok(found);
+        }
+        let added = self.add(value)?;
+        self.put_in_order(added.crowded);
+        Ok(Some(added.place))
+    }
+
+    /// The same of a value that is no null. Where values are found by their hash, and there is room
+    /// for one more, this takes one look.
+    #[inline(always)]
+    fn find_or_put(&mut self, number: T, may_add: bool) -> Result<Option<u32>, DictError>
+        ensures values { OnOk result (self.new ≡ (if may_add
+            then with_key (option_eq T.eq) self.old (Some number) else self.old)) }
+        ensures code { IfOk result (λ o. o ≡ (if may_add
+            then Some (code_in (option_eq T.eq) self.old (Some number))
+            else place_of (option_eq T.eq) (Some number) self.old)) }
+        ensures stays { OnErr result (self.new ≡ self.old) }
+        ensures new { OnErr result (IsTrue may_add
+            × (place_of (option_eq T.eq) (Some number) self.old ≡ None)) }
+        ensures too_large { (result ≡ Err DictError.TooLarge)
+            ↔ (IsTrue may_add × (place_of (option_eq T.eq) (Some number) self.old ≡ None)
+            × (2 ^ 32 ≤ byte_width_of T.PTYPE * (length self.old + 1))) }
+        ensures errors { IfErr result (λ e. IsOfSize e) }
+    {
+        if !may_add {
+            return self.find_then_add(Some(number), may_add);
+        }
+        let width = T::PTYPE.byte_width();
+        let count = self.values.len();
+        if !has_place(&self.ordered, &mut self.values, width) {
+            return self.find_then_add(Some(number), may_add);
+        }
+        let place = find_or_insert(&mut self.codes, number, count as u32)?;
+        if place as usize != count {
+            return Ok(Some(place));
+        }
+        self.values.push_reserved(Some(number));
+        let crowded = is_crowded(&mut self.classes, Some(number), count);
+        self.put_in_order(crowded);
+        Ok(Some(place))
     }
 
     /// The place of a value, which is added where it is new and may be added, or nothing where it
@@ -285,14 +400,9 @@ impl<T: NativeValue> Numbers<T> {
             × (2 ^ 32 ≤ byte_width_of T.PTYPE * (length self.old + 1))) }
         ensures errors { IfErr result (λ e. IsOfSize e) }
     {
-        let found = self.place(value);
-        if found.is_some() || !may_add {
-            return Ok(found);
+        match value {
+            Some(number) => self.find_or_put(number, may_add),
+            None => self.find_then_add(None, may_add),
         }
-        let added = self.add(value)?;
-        if added.crowded {
-            self.put_in_order();
-        }
-        Ok(Some(added.place))
     }
 }
