@@ -2,7 +2,7 @@
 use Rattle.std.proofs.Common.{◌≡◌, ℕ, ◌+◌, ◌^◌, ◌<◌, inl, inr, Bool, true, false, true≢false, not}
 use Rattle.std.proofs.Common.{◌||◌, nat_le, ◌*◌, map, pos, ℤ, IsTrue, cond, Option, Some, None}
 use Rattle.std.proofs.Common.{List, [], ◌∷◌, ◌++◌, length, take, get_or, refl, ap, sym, subst, ◌∙◌}
-use Rattle.std.proofs.Common.{arith, mul-suc}
+use Rattle.std.proofs.Common.{arith, mul-suc, Ok, Err, ◌≤◌}
 use Rattle.std.specs.Bool.{Decides}
 use Rattle.std.specs.Option.{option_eq, unwrap_or, is_some}
 use Rattle.std.proofs.lemmas.Bool.{cases_lt}
@@ -28,6 +28,12 @@ use Rattle.vortex_dict.proofs.ValueLemmas.{option_eq-Decides}
 
 abbrev Apart : {T : Type 0} → List (Option T) → Type 0
 Apart values = (c d : ℕ) → c < length values → d < length values → get_or values c None ≡ get_or values d None → c ≡ d
+
+ok_err : {X E : Type 0} (x : X) (e : E) → Ok x ≡ Err e → ⊥
+ok_err x e h = cc
+
+some_not_none : (o : Option ℕ) (n : ℕ) → o ≡ Some n → o ≡ None → ⊥
+some_not_none o n f e = cc
 
 module _ {T : Type 0} (eq : T → T → Bool) (law : (x y : T) → Decides (eq x y) (x ≡ y)) where
   abbrev same : Option T → Option T → Bool
@@ -75,9 +81,6 @@ module _ {T : Type 0} (eq : T → T → Bool) (law : (x y : T) → Decides (eq x
     looked : place_in eq cmp codes None v ≡ place_of same (Some v) values
     looked = ap (λ o. place_found eq cmp codes o null (Some v)) (sym by_hash) ∙ h.found (Some v)
 
-    pub place_absent : place_in eq cmp codes None v ≡ None → place_of same (Some v) values ≡ None
-    place_absent n = sym looked ∙ n
-
     module _ (count place : ℕ) (l : count ≡ length values) (e : place ≡ unwrap_or (place_in eq cmp codes None v) count) where
       one_code : place ≡ code_in same values (Some v)
       one_code = e ∙ ap (λ o. unwrap_or o count) looked ∙ ap (unwrap_or (place_of same (Some v) values)) l
@@ -89,7 +92,7 @@ module _ {T : Type 0} (eq : T → T → Bool) (law : (x y : T) → Decides (eq x
           by None f = f
           by (Some c) f = absurd (let below = place_below same (Some v) values c f in let at : place ≡ c = one_code ∙ ap (λ o. unwrap_or o (length values)) f in omega (arith, below, at, p, l))
 
-      one_old : (place ≡ count → ⊥) → place_of same (Some v) values ≡ Some place
+      pub one_old : (place ≡ count → ⊥) → place_of same (Some v) values ≡ Some place
       one_old n = by (place_of same (Some v) values) refl
         where
           by : (o : Option ℕ) → place_of same (Some v) values ≡ o → place_of same (Some v) values ≡ Some place
@@ -99,11 +102,21 @@ module _ {T : Type 0} (eq : T → T → Bool) (law : (x y : T) → Decides (eq x
       abbrev after : Bool → List (Option T)
       after may = cond may (with_key same values (Some v)) values
 
-      pub one_value : (may : Bool) → may ≡ true → Some place ≡ cond may (Some (code_in same values (Some v))) (place_of same (Some v) values)
-      one_value may t = ap (λ n. Some n) one_code ∙ sym (ap (λ b. cond b (Some (code_in same values (Some v))) (place_of same (Some v) values)) t)
+      -- a value that is found
+      pub found_value : (may : Bool) → (place ≡ count → ⊥) → Some place ≡ cond may (Some (code_in same values (Some v))) (place_of same (Some v) values)
+      found_value true n = ap (λ n. Some n) one_code
+      found_value false n = sym (one_old n)
 
-      pub found_values : (may : Bool) (values' : List (Option T)) → may ≡ true → values' ≡ values → (place ≡ count → ⊥) → values' ≡ after may
-      found_values may values' t s n = s ∙ sym (ap after t ∙ ap (λ o. cond (is_some o) values (values ++ Some v ∷ [])) (one_old n))
+      pub found_values : (may : Bool) (values' : List (Option T)) → values' ≡ values → (place ≡ count → ⊥) → values' ≡ after may
+      found_values true values' s n = s ∙ sym (ap (λ o. cond (is_some o) values (values ++ Some v ∷ [])) (one_old n))
+      found_values false values' s n = s
+
+      -- a value that is added
+      pub is_new : place ≡ count → place_in eq cmp codes None v ≡ None
+      is_new p = looked ∙ one_new p
+
+      pub added_value : (may : Bool) → may ≡ true → Some place ≡ cond may (Some (code_in same values (Some v))) (place_of same (Some v) values)
+      added_value may t = ap (λ n. Some n) one_code ∙ sym (ap (λ b. cond b (Some (code_in same values (Some v))) (place_of same (Some v) values)) t)
 
       pub added_values : (may : Bool) (values' : List (Option T)) → may ≡ true → values' ≡ values ++ Some v ∷ [] → place ≡ count → values' ≡ after may
       added_values may values' t s n = s ∙ sym (ap after t ∙ ap (λ o. cond (is_some o) values (values ++ Some v ∷ [])) (one_new n))
@@ -128,6 +141,13 @@ module _ {T : Type 0} (eq : T → T → Bool) (law : (x y : T) → Decides (eq x
       let count : length first ≡ i = length-take-le i values (omega arith) in
       let absent : place_of same x first ≡ None = sym (unplaced_in same (option_eq-Decides eq law) first None x (λ j u f. let below : j < i = omega (arith, u, count) in let one = a j i (omega (arith, below, l)) l (sym (get_or-take i values j None below) ∙ f ∙ sym e) in omega (arith, below, one))) in
       n v ∙ ap (λ q. cond (same x (Some v)) (Some place) q) (o v) ∙ ap (λ q. cond (same x (Some v)) (Some q) (place_of same (Some v) first)) (p ∙ sym count) ∙ sym (place_of-push same (option_eq-Decides eq law) first x (Some v) absent) ∙ ap (place_of same (Some v)) (ap (λ q. first ++ q ∷ []) (sym e) ∙ sym (take_more values i None l))
+
+-- what no refusal says of TooLarge
+pub found_too_large : {X E P B : Type 0} (x : X) (e : E) (o : Option ℕ) (n : ℕ) → o ≡ Some n → (Ok x ≡ Err e → P × (o ≡ None) × B) × (P × (o ≡ None) × B → Ok x ≡ Err e)
+found_too_large x e o n f = (λ h. absurd (ok_err x e h), λ p. absurd (some_not_none o n f p.1))
+
+pub added_too_large : {X E P Q : Type 0} (x : X) (e : E) (m : ℕ) → m < 2 ^ 32 → (Ok x ≡ Err e → P × Q × (2 ^ 32 ≤ m)) × (P × Q × (2 ^ 32 ≤ m) → Ok x ≡ Err e)
+added_too_large x e m f = (λ h. absurd (ok_err x e h), λ p. absurd (let most = p.2 in omega (arith, f, most)))
 
 -- whether a value is over a limit, by the values
 pub full_is : {T : Type 0} (number : T → ℤ) (code : Format) (width : ℕ) (limits : DictConstraints) (ks : List (Option T)) (r : Row) (b : Bool) (len : ℕ) → b ≡ (not (fits code (pos len)) || nat_le (most_values width limits) len) → len ≡ length ks → b ≡ numbers_over code width limits (map (number_or_null number) ks) r

@@ -2,7 +2,7 @@
 
 ghost use Rattle.std.specs.Prelude.{◌≡◌, ℕ, ◌+◌, ◌*◌, ◌^◌, ◌<◌, ◌≤◌, ◌↔◌, [], ◌∷◌, ◌++◌, length};
 ghost use Rattle.std.specs.Prelude.{get_or, IfErr, IfOk, OnOk, OnErr, Err, Some, None, IsTrue};
-ghost use Rattle.std.specs.Prelude.{vec_len, vec_capacity};
+ghost use Rattle.std.specs.Prelude.{IfSome, IfNone, OnSome, vec_len, vec_capacity};
 ghost use Rattle.std.specs.Prelude.{Option, cond, if◌then◌else◌};
 ghost use Rattle.std.specs.BTreeMap.{get};
 ghost use Rattle.std.specs.List.{IsDistinct};
@@ -14,6 +14,7 @@ ghost use Rattle.vortex_dict.specs.inner.Numbers.{place_in, place_found, HasPlac
 
 use crate::native_value::NativeValue;
 use std::alloc::{AllocError, Global};
+use std::collections::hash_map::Entry;
 use std::collections::{BTreeMap, HashMap};
 use std::hash::{FoldHasher, Hash, Hasher};
 use std::marker::Model;
@@ -141,26 +142,6 @@ fn insert<T: NativeValue>(
     Ok(())
 }
 
-/// The place of a value, which is this one where the map has none.
-#[inline(always)]
-fn find_or_insert<T: NativeValue>(
-    codes: &mut HashMap<T, u32>,
-    value: T,
-    place: u32,
-) -> Result<u32, AllocError>
-    ensures code { IfOk result (λ p. p ≡ unwrap_or
-        (place_in T.eq T.cmp codes.old None value) place) }
-    ensures inserted { OnOk result ((v : T) → place_in T.eq T.cmp codes.new None v
-        ≡ cond (T.eq value v) (Some (unwrap_or (place_in T.eq T.cmp codes.old None value) place))
-        (place_in T.eq T.cmp codes.old None v)) }
-    ensures stays { OnErr result ((v : T) → place_in T.eq T.cmp codes.new None v
-        ≡ place_in T.eq T.cmp codes.old None v) }
-    ensures absent { OnErr result (place_in T.eq T.cmp codes.old None value ≡ None) }
-{
-    let entry = codes.entry(value)?;
-    Ok(*entry.or_insert(place))
-}
-
 /// Gives a value its place in a map by order.
 fn insert_in_order<T: NativeValue>(
     ordered: &mut BTreeMap<T, u32>,
@@ -205,27 +186,69 @@ fn has_room(width: usize, count: usize) -> bool
     width * (count + 1) <= u32::MAX as usize
 }
 
-/// Makes room for a value of this width behind the others, and tells whether there is some and
-/// values are found by their hash.
+/// Makes room for a value of this width behind the others, and tells whether there is some.
 #[inline(always)]
-fn has_place<T: NativeValue>(
-    ordered: &Option<BTreeMap<T, u32>>,
-    values: &mut Vec<Option<T>>,
-    width: usize,
-) -> bool
+fn has_place<T: NativeValue>(values: &mut Vec<Option<T>>, width: usize) -> bool
     requires width { width ≤ 8 }
     requires few { length values.old.items < 2 ^ 32 }
     ensures stays { values.new.items ≡ values.old.items }
     ensures room { IsTrue result → vec_len values.new < vec_capacity values.new }
     ensures small { IsTrue result → width * (length values.old.items + 1) < 2 ^ 32 }
     ensures few { IsTrue result → length values.old.items + 1 < 2 ^ 32 }
-    ensures by_hash { IsTrue result → ordered.now ≡ None }
 {
-    if ordered.is_some() {
-        return false;
-    }
     let count = values.len();
     has_room(width, count) && count < u32::MAX as usize && values.reserve(1).is_ok()
+}
+
+/// One look at the map, where values are found by it: the place of a value, or the next place, which
+/// it then has, where it is new, may be added, and there is room. Nothing tells that another look is
+/// wanted.
+#[inline(always)]
+fn look<T: NativeValue>(
+    codes: &mut HashMap<T, u32>,
+    ordered: &Option<BTreeMap<T, u32>>,
+    values: &mut Vec<Option<T>>,
+    value: T,
+    width: usize,
+    may_add: bool,
+) -> Option<u32>
+    requires width { width ≤ 8 }
+    requires few { length values.old.items < 2 ^ 32 }
+    ensures by_hash { OnSome result (ordered.now ≡ None) }
+    ensures code { IfSome result (λ p. p ≡ unwrap_or
+        (place_in T.eq T.cmp codes.old None value) (length values.old.items)) }
+    ensures inserted { OnSome result ((v : T) → place_in T.eq T.cmp codes.new None v
+        ≡ cond (T.eq value v) (Some (unwrap_or
+        (place_in T.eq T.cmp codes.old None value) (length values.old.items)))
+        (place_in T.eq T.cmp codes.old None v)) }
+    ensures stays { IfNone result ((v : T) → place_in T.eq T.cmp codes.new None v
+        ≡ place_in T.eq T.cmp codes.old None v) }
+    ensures values { values.new.items ≡ values.old.items }
+    ensures new { OnSome result (place_in T.eq T.cmp codes.old None value ≡ None
+        → IsTrue may_add × (vec_len values.new < vec_capacity values.new)
+        × (width * (length values.old.items + 1) < 2 ^ 32)
+        × (length values.old.items + 1 < 2 ^ 32)) }
+{
+    if ordered.is_some() {
+        return None;
+    }
+    match codes.entry(value) {
+        Ok(Entry::Occupied(entry)) => Some(*entry.get()),
+        Ok(Entry::Vacant(entry)) => {
+            let place = values.len() as u32;
+            if !may_add {
+                let _value = entry.into_key();
+                return None;
+            }
+            if !has_place(values, width) {
+                let _value = entry.into_key();
+                return None;
+            }
+            let _code = entry.insert(place);
+            Some(place)
+        }
+        Err(_) => None,
+    }
 }
 
 impl<T: NativeValue> Numbers<T> {
@@ -361,15 +384,18 @@ impl<T: NativeValue> Numbers<T> {
             × (2 ^ 32 ≤ byte_width_of T.PTYPE * (length self.old + 1))) }
         ensures errors { IfErr result (λ e. IsOfSize e) }
     {
-        if !may_add {
-            return self.find_then_add(Some(number), may_add);
-        }
         let width = T::PTYPE.byte_width();
         let count = self.values.len();
-        if !has_place(&self.ordered, &mut self.values, width) {
+        let Some(place) = look(
+            &mut self.codes,
+            &self.ordered,
+            &mut self.values,
+            number,
+            width,
+            may_add,
+        ) else {
             return self.find_then_add(Some(number), may_add);
-        }
-        let place = find_or_insert(&mut self.codes, number, count as u32)?;
+        };
         if place as usize != count {
             return Ok(Some(place));
         }
