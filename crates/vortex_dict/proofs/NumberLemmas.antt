@@ -23,7 +23,6 @@ use Rattle.vortex_dict.specs.declared.constraints.DictConstraints.{DictConstrain
 use Rattle.vortex_dict.specs.KeyRows.{number_or_null}
 use Rattle.vortex_dict.specs.Limits.{most_values, numbers_over}
 use Rattle.vortex_dict.specs.inner.Numbers.{place_in, place_found, HasPlaces}
-use Rattle.vortex_dict.proofs.BytesLemmas.{place_below}
 use Rattle.vortex_dict.proofs.ValueLemmas.{option_eq-Decides}
 
 abbrev Apart : {T : Type 0} → List (Option T) → Type 0
@@ -31,9 +30,6 @@ Apart values = (c d : ℕ) → c < length values → d < length values → get_o
 
 ok_err : {X E : Type 0} (x : X) (e : E) → Ok x ≡ Err e → ⊥
 ok_err x e h = cc
-
-some_not_none : (o : Option ℕ) (n : ℕ) → o ≡ Some n → o ≡ None → ⊥
-some_not_none o n f e = cc
 
 module _ {T : Type 0} (eq : T → T → Bool) (law : (x y : T) → Decides (eq x y) (x ≡ y)) where
   abbrev same : Option T → Option T → Bool
@@ -76,58 +72,78 @@ module _ {T : Type 0} (eq : T → T → Bool) (law : (x y : T) → Decides (eq x
         by None = h.found None
         by (Some q) = i q
 
+  -- a look that left the map as it was
+  pub places_looked : {S : Type 0} (cmp : T → T → Ordering) (width : ℕ) (values : List (Option T)) (codes : HashMap T ℕ S) (ordered : Option (BTreeMap T ℕ)) (null : Option ℕ) → HasPlaces eq cmp width values codes ordered null → (values' : List (Option T)) (codes' : HashMap T ℕ S) → values' ≡ values
+      → ((q : T) → place_in eq cmp codes' None q ≡ place_in eq cmp codes None q) → HasPlaces eq cmp width values' codes' ordered null
+  places_looked cmp width values codes ordered null h values' codes' s i = places_stay cmp width values values' codes codes' ordered ordered null null h s (by ordered)
+    where
+      by : (o : Option (BTreeMap T ℕ)) → (q : Option T) → place_found eq cmp codes' o null q ≡ place_found eq cmp codes o null q
+      by o None = refl
+      by None (Some q) = i q
+      by (Some m) (Some q) = refl
+
   -- a look that finds a value or adds it
   module _ {S : Type 0} (cmp : T → T → Ordering) (width : ℕ) (values : List (Option T)) (codes : HashMap T ℕ S) (ordered : Option (BTreeMap T ℕ)) (null : Option ℕ) (v : T) (h : HasPlaces eq cmp width values codes ordered null) (by_hash : ordered ≡ None) where
     looked : place_in eq cmp codes None v ≡ place_of same (Some v) values
     looked = ap (λ o. place_found eq cmp codes o null (Some v)) (sym by_hash) ∙ h.found (Some v)
 
-    module _ (count place : ℕ) (l : count ≡ length values) (e : place ≡ unwrap_or (place_in eq cmp codes None v) count) where
-      one_code : place ≡ code_in same values (Some v)
-      one_code = e ∙ ap (λ o. unwrap_or o count) looked ∙ ap (unwrap_or (place_of same (Some v) values)) l
+    abbrev keep : Option ℕ → List (Option T)
+    keep o = cond (is_some o) values (values ++ Some v ∷ [])
 
-      one_new : place ≡ count → place_of same (Some v) values ≡ None
-      one_new p = by (place_of same (Some v) values) refl
+    abbrev seen : T → Option ℕ
+    seen q = place_in eq cmp codes None q
+
+    module _ (place : ℕ) (e : place ≡ unwrap_or (place_in eq cmp codes None v) (length values)) (values' : List (Option T)) (s : values' ≡ cond (is_some (place_in eq cmp codes None v)) values (values ++ Some v ∷ [])) (may : Bool)
+        (new : place_in eq cmp codes None v ≡ None → (may ≡ true) × (width * (length values + 1) < 2 ^ 32) × (length values + 1 < 2 ^ 32)) where
+      pub one_value : Some place ≡ cond may (Some (code_in same values (Some v))) (place_of same (Some v) values)
+      one_value = by (seen v) refl
         where
-          by : (o : Option ℕ) → place_of same (Some v) values ≡ o → place_of same (Some v) values ≡ None
-          by None f = f
-          by (Some c) f = absurd (let below = place_below same (Some v) values c f in let at : place ≡ c = one_code ∙ ap (λ o. unwrap_or o (length values)) f in omega (arith, below, at, p, l))
+          code : place ≡ code_in same values (Some v)
+          code = e ∙ ap (λ o. unwrap_or o (length values)) looked
 
-      pub one_old : (place ≡ count → ⊥) → place_of same (Some v) values ≡ Some place
-      one_old n = by (place_of same (Some v) values) refl
+          kept : (c : ℕ) → place_of same (Some v) values ≡ Some c → (b : Bool) → Some place ≡ cond b (Some (code_in same values (Some v))) (place_of same (Some v) values)
+          kept c f true = ap (λ n. Some n) code
+          kept c f false = ap (λ n. Some n) (code ∙ ap (λ o. unwrap_or o (length values)) f) ∙ sym f
+
+          by : (o : Option ℕ) → seen v ≡ o → Some place ≡ cond may (Some (code_in same values (Some v))) (place_of same (Some v) values)
+          by None f = ap (λ n. Some n) code ∙ sym (ap (λ b. cond b (Some (code_in same values (Some v))) (place_of same (Some v) values)) (new f).0)
+          by (Some c) f = kept c (sym looked ∙ f) may
+
+      pub one_values : values' ≡ cond may (with_key same values (Some v)) values
+      one_values = by (seen v) refl
         where
-          by : (o : Option ℕ) → place_of same (Some v) values ≡ o → place_of same (Some v) values ≡ Some place
-          by None f = absurd (n (one_code ∙ ap (λ o. unwrap_or o (length values)) f ∙ sym l))
-          by (Some c) f = f ∙ ap (λ n. Some n) (sym (one_code ∙ ap (λ o. unwrap_or o (length values)) f))
+          kept : (c : ℕ) → place_of same (Some v) values ≡ Some c → (b : Bool) → values ≡ cond b (with_key same values (Some v)) values
+          kept c f true = sym (ap keep f)
+          kept c f false = refl
 
-      abbrev after : Bool → List (Option T)
-      after may = cond may (with_key same values (Some v)) values
+          by : (o : Option ℕ) → seen v ≡ o → values' ≡ cond may (with_key same values (Some v)) values
+          by None f = s ∙ ap keep f ∙ sym (ap (λ b. cond b (with_key same values (Some v)) values) (new f).0 ∙ ap keep (sym looked ∙ f))
+          by (Some c) f = s ∙ ap keep f ∙ kept c (sym looked ∙ f) may
 
-      -- a value that is found
-      pub found_value : (may : Bool) → (place ≡ count → ⊥) → Some place ≡ cond may (Some (code_in same values (Some v))) (place_of same (Some v) values)
-      found_value true n = ap (λ n. Some n) one_code
-      found_value false n = sym (one_old n)
+      pub one_too_large : {X E : Type 0} (x : X) (error : E) → (Ok x ≡ Err error → IsTrue may × (place_of same (Some v) values ≡ None) × (2 ^ 32 ≤ width * (length values + 1))) × (IsTrue may × (place_of same (Some v) values ≡ None) × (2 ^ 32 ≤ width * (length values + 1)) → Ok x ≡ Err error)
+      one_too_large x error = (λ h. absurd (ok_err x error h), λ p. absurd (let few = (new (looked ∙ p.1)).1 in let most = p.2 in omega (arith, few, most)))
 
-      pub found_values : (may : Bool) (values' : List (Option T)) → values' ≡ values → (place ≡ count → ⊥) → values' ≡ after may
-      found_values true values' s n = s ∙ sym (ap (λ o. cond (is_some o) values (values ++ Some v ∷ [])) (one_old n))
-      found_values false values' s n = s
-
-      -- a value that is added
-      pub is_new : place ≡ count → place_in eq cmp codes None v ≡ None
-      is_new p = looked ∙ one_new p
-
-      pub added_value : (may : Bool) → may ≡ true → Some place ≡ cond may (Some (code_in same values (Some v))) (place_of same (Some v) values)
-      added_value may t = ap (λ n. Some n) one_code ∙ sym (ap (λ b. cond b (Some (code_in same values (Some v))) (place_of same (Some v) values)) t)
-
-      pub added_values : (may : Bool) (values' : List (Option T)) → may ≡ true → values' ≡ values ++ Some v ∷ [] → place ≡ count → values' ≡ after may
-      added_values may values' t s n = s ∙ sym (ap after t ∙ ap (λ o. cond (is_some o) values (values ++ Some v ∷ [])) (one_new n))
-
-      pub added_places : (values' : List (Option T)) (codes' : HashMap T ℕ S) → values' ≡ values ++ Some v ∷ [] → place ≡ count → count + 1 < 2 ^ 32 → width * (count + 1) < 2 ^ 32
-          → ((q : T) → place_in eq cmp codes' None q ≡ cond (eq v q) (Some (unwrap_or (place_in eq cmp codes None v) count)) (place_in eq cmp codes None q)) → HasPlaces eq cmp width values' codes' ordered null
-      added_places values' codes' s p f w i = places_more cmp width values values' codes codes' ordered ordered null null (Some v) place h (one_new p) s (p ∙ l) (rw p f) (rw p w) found
+      pub one_places : (codes' : HashMap T ℕ S) → ((q : T) → place_in eq cmp codes' None q ≡ cond (eq v q) (Some (unwrap_or (place_in eq cmp codes None v) (length values))) (place_in eq cmp codes None q)) → HasPlaces eq cmp width values' codes' ordered null
+      one_places codes' i = by (seen v) refl
         where
-          found : (q : Option T) → place_found eq cmp codes' ordered null q ≡ cond (same (Some v) q) (Some place) (place_found eq cmp codes ordered null q)
-          found None = refl
-          found (Some q) = rw by_hash (i q ∙ ap (λ n. cond (eq v q) (Some n) (place_in eq cmp codes None q)) (sym e))
+          stays : (c : ℕ) → seen v ≡ Some c → (q : T) → (b : Bool) → eq v q ≡ b → cond (eq v q) (Some (unwrap_or (place_in eq cmp codes None v) (length values))) (place_in eq cmp codes None q) ≡ place_in eq cmp codes None q
+          stays c f q true t = ap (λ b. cond b (Some (unwrap_or (seen v) (length values))) (seen q)) t ∙ ap (λ o. Some (unwrap_or o (length values))) f ∙ sym f ∙ ap seen ((law v q).0 t)
+          stays c f q false t = ap (λ b. cond b (Some (unwrap_or (seen v) (length values))) (seen q)) t
+
+          old_found : (c : ℕ) → seen v ≡ Some c → (q : Option T) → place_found eq cmp codes' ordered null q ≡ place_found eq cmp codes ordered null q
+          old_found c f None = refl
+          old_found c f (Some q) = rw by_hash (i q ∙ stays c f q (eq v q) refl)
+
+          new_found : (q : Option T) → place_found eq cmp codes' ordered null q ≡ cond (same (Some v) q) (Some place) (place_found eq cmp codes ordered null q)
+          new_found None = refl
+          new_found (Some q) = rw by_hash (i q ∙ ap (λ n. cond (eq v q) (Some n) (place_in eq cmp codes None q)) (sym e))
+
+          by : (o : Option ℕ) → seen v ≡ o → HasPlaces eq cmp width values' codes' ordered null
+          by None f =
+              let last : place ≡ length values = e ∙ ap (λ o. unwrap_or o (length values)) f in
+              let room = new f in
+              places_more cmp width values values' codes codes' ordered ordered null null (Some v) place h (sym looked ∙ f) (s ∙ ap keep f) last (rw last room.2) (rw last room.1) new_found
+          by (Some c) f = places_stay cmp width values values' codes codes' ordered ordered null null h (s ∙ ap keep f) (old_found c f)
 
   some_is : (a b : Option T) → Some a ≡ Some b → a ≡ b
   some_is a b h = cc
@@ -141,13 +157,6 @@ module _ {T : Type 0} (eq : T → T → Bool) (law : (x y : T) → Decides (eq x
       let count : length first ≡ i = length-take-le i values (omega arith) in
       let absent : place_of same x first ≡ None = sym (unplaced_in same (option_eq-Decides eq law) first None x (λ j u f. let below : j < i = omega (arith, u, count) in let one = a j i (omega (arith, below, l)) l (sym (get_or-take i values j None below) ∙ f ∙ sym e) in omega (arith, below, one))) in
       n v ∙ ap (λ q. cond (same x (Some v)) (Some place) q) (o v) ∙ ap (λ q. cond (same x (Some v)) (Some q) (place_of same (Some v) first)) (p ∙ sym count) ∙ sym (place_of-push same (option_eq-Decides eq law) first x (Some v) absent) ∙ ap (place_of same (Some v)) (ap (λ q. first ++ q ∷ []) (sym e) ∙ sym (take_more values i None l))
-
--- what no refusal says of TooLarge
-pub found_too_large : {X E P B : Type 0} (x : X) (e : E) (o : Option ℕ) (n : ℕ) → o ≡ Some n → (Ok x ≡ Err e → P × (o ≡ None) × B) × (P × (o ≡ None) × B → Ok x ≡ Err e)
-found_too_large x e o n f = (λ h. absurd (ok_err x e h), λ p. absurd (some_not_none o n f p.1))
-
-pub added_too_large : {X E P Q : Type 0} (x : X) (e : E) (m : ℕ) → m < 2 ^ 32 → (Ok x ≡ Err e → P × Q × (2 ^ 32 ≤ m)) × (P × Q × (2 ^ 32 ≤ m) → Ok x ≡ Err e)
-added_too_large x e m f = (λ h. absurd (ok_err x e h), λ p. absurd (let most = p.2 in omega (arith, f, most)))
 
 -- whether a value is over a limit, by the values
 pub full_is : {T : Type 0} (number : T → ℤ) (code : Format) (width : ℕ) (limits : DictConstraints) (ks : List (Option T)) (r : Row) (b : Bool) (len : ℕ) → b ≡ (not (fits code (pos len)) || nat_le (most_values width limits) len) → len ≡ length ks → b ≡ numbers_over code width limits (map (number_or_null number) ks) r

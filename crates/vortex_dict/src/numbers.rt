@@ -6,7 +6,7 @@ ghost use Rattle.std.specs.Prelude.{IfSome, IfNone, OnSome, vec_len, vec_capacit
 ghost use Rattle.std.specs.Prelude.{Option, cond, if◌then◌else◌};
 ghost use Rattle.std.specs.BTreeMap.{get};
 ghost use Rattle.std.specs.List.{IsDistinct};
-ghost use Rattle.std.specs.Option.{option_eq, unwrap_or};
+ghost use Rattle.std.specs.Option.{option_eq, unwrap_or, is_some};
 ghost use Rattle.vortex_number.specs.PType.{byte_width_of};
 ghost use Rattle.vortex_codes.specs.Places.{place_of, with_key, code_in};
 ghost use Rattle.vortex_codes.specs.Refusals.{IsOfSize};
@@ -16,7 +16,7 @@ use crate::native_value::NativeValue;
 use std::alloc::{AllocError, Global};
 use std::collections::hash_map::Entry;
 use std::collections::{BTreeMap, HashMap};
-use std::hash::{FoldHasher, Hash, Hasher};
+use std::hash::BuildHasher;
 use std::marker::Model;
 use vortex_codes::DictError;
 
@@ -61,31 +61,21 @@ const CLASSES: usize = 4096;
 /// So many values in one class are no sign of values that were chosen to collide.
 const FEW: usize = 64;
 
-/// Counts a new value, and tells whether its class is crowded. The first few values are not
-/// counted, nor any for which there is no memory.
+/// The class of a value's hash. It is the hash that the map finds the value by.
 #[inline(always)]
-fn is_crowded<T: NativeValue>(classes: &mut Vec<u32>, value: Option<T>, count: usize) -> bool {
-    let Some(value) = value else {
-        return false;
-    };
-    if count < FEW || !are_counted(classes) {
-        return false;
-    }
-    let mut hasher = FoldHasher::default();
-    value.hash(&mut hasher);
-    let hash = hasher.finish();
-    let class = ((hash ^ (hash >> 32)) & (CLASSES as u64 - 1)) as usize;
-    let Some(size) = classes.get_mut(class) else {
-        return false;
-    };
-    *size = size.saturating_add(1);
-    *size as usize > FEW + count / (CLASSES / 2)
+fn class_of<T: NativeValue>(codes: &HashMap<T, u32>, value: T) -> usize
+    ensures { result < 4096 }
+{
+    let hash = codes.hasher().hash_one(value);
+    ((hash ^ (hash >> 32)) & (CLASSES as u64 - 1)) as usize
 }
 
 /// Makes the classes where there are none, and tells whether there are some.
 #[inline(always)]
-fn are_counted(classes: &mut Vec<u32>) -> bool {
-    if classes.len() >= CLASSES {
+fn are_counted(classes: &mut Vec<u32>) -> bool
+    ensures { IsTrue result → length classes.new.items ≡ 4096 }
+{
+    if classes.len() == CLASSES {
         return true;
     }
     let alloc = *classes.allocator();
@@ -96,6 +86,36 @@ fn are_counted(classes: &mut Vec<u32>) -> bool {
         }
         Err(_) => false,
     }
+}
+
+/// Counts a new value in its class, and tells whether that is crowded. The first few values are not
+/// counted, nor any for which there is no memory.
+#[inline(always)]
+fn is_crowded(classes: &mut Vec<u32>, class: usize, count: usize) -> bool
+    requires { class < 4096 }
+{
+    if count < FEW {
+        return false;
+    }
+    if !are_counted(classes) {
+        return false;
+    }
+    let size = classes[class].wrapping_add(1);
+    classes[class] = size;
+    size as usize > FEW + count / (CLASSES / 2)
+}
+
+/// The same of a value or null, which has no class.
+fn is_in_crowd<T: NativeValue>(
+    classes: &mut Vec<u32>,
+    codes: &HashMap<T, u32>,
+    value: Option<T>,
+    count: usize,
+) -> bool {
+    let Some(value) = value else {
+        return false;
+    };
+    is_crowded(classes, class_of(codes, value), count)
 }
 
 /// The place that the maps have for a value.
@@ -200,22 +220,23 @@ fn has_place<T: NativeValue>(values: &mut Vec<Option<T>>, width: usize) -> bool
     has_room(width, count) && count < u32::MAX as usize && values.reserve(1).is_ok()
 }
 
-/// One look at the map, where values are found by it: the place of a value, or the next place, which
-/// it then has, where it is new, may be added, and there is room. Nothing tells that another look is
+/// One look at the map, where values are found by it: the place of a value, which is put behind the
+/// others where it is new, may be added, and there is room. Nothing tells that another look is
 /// wanted.
 #[inline(always)]
 fn look<T: NativeValue>(
     codes: &mut HashMap<T, u32>,
     ordered: &Option<BTreeMap<T, u32>>,
     values: &mut Vec<Option<T>>,
+    classes: &mut Vec<u32>,
     value: T,
     width: usize,
     may_add: bool,
-) -> Option<u32>
+) -> Option<Added>
     requires width { width ≤ 8 }
     requires few { length values.old.items < 2 ^ 32 }
     ensures by_hash { OnSome result (ordered.now ≡ None) }
-    ensures code { IfSome result (λ p. p ≡ unwrap_or
+    ensures place { IfSome result (λ a. a.place ≡ unwrap_or
         (place_in T.eq T.cmp codes.old None value) (length values.old.items)) }
     ensures inserted { OnSome result ((v : T) → place_in T.eq T.cmp codes.new None v
         ≡ cond (T.eq value v) (Some (unwrap_or
@@ -223,19 +244,28 @@ fn look<T: NativeValue>(
         (place_in T.eq T.cmp codes.old None v)) }
     ensures stays { IfNone result ((v : T) → place_in T.eq T.cmp codes.new None v
         ≡ place_in T.eq T.cmp codes.old None v) }
-    ensures values { values.new.items ≡ values.old.items }
+    ensures same { IfNone result (values.new.items ≡ values.old.items) }
+    ensures values { OnSome result (values.new.items
+        ≡ cond (is_some (place_in T.eq T.cmp codes.old None value)) values.old.items
+        (values.old.items ++ Some value ∷ [])) }
     ensures new { OnSome result (place_in T.eq T.cmp codes.old None value ≡ None
-        → IsTrue may_add × (vec_len values.new < vec_capacity values.new)
-        × (width * (length values.old.items + 1) < 2 ^ 32)
+        → IsTrue may_add × (width * (length values.old.items + 1) < 2 ^ 32)
         × (length values.old.items + 1 < 2 ^ 32)) }
 {
     if ordered.is_some() {
         return None;
     }
+    let class = class_of(codes, value);
     match codes.entry(value) {
-        Ok(Entry::Occupied(entry)) => Some(*entry.get()),
+        Ok(Entry::Occupied(entry)) => {
+            let place = *entry.get();
+            Some(Added {
+                place,
+                crowded: false,
+            })
+        }
         Ok(Entry::Vacant(entry)) => {
-            let place = values.len() as u32;
+            let count = values.len();
             if !may_add {
                 let _value = entry.into_key();
                 return None;
@@ -244,8 +274,11 @@ fn look<T: NativeValue>(
                 let _value = entry.into_key();
                 return None;
             }
+            let place = count as u32;
             let _code = entry.insert(place);
-            Some(place)
+            values.push_reserved(Some(value));
+            let crowded = is_crowded(classes, class, count);
+            Some(Added { place, crowded })
         }
         Err(_) => None,
     }
@@ -324,7 +357,7 @@ impl<T: NativeValue> Numbers<T> {
             place,
         )?;
         self.values.push_reserved(value);
-        let crowded = is_crowded(&mut self.classes, value, count);
+        let crowded = is_in_crowd(&mut self.classes, &self.codes, value, count);
         Ok(Added { place, crowded })
     }
 
@@ -385,24 +418,19 @@ impl<T: NativeValue> Numbers<T> {
         ensures errors { IfErr result (λ e. IsOfSize e) }
     {
         let width = T::PTYPE.byte_width();
-        let count = self.values.len();
-        let Some(place) = look(
+        let Some(added) = look(
             &mut self.codes,
             &self.ordered,
             &mut self.values,
+            &mut self.classes,
             number,
             width,
             may_add,
         ) else {
             return self.find_then_add(Some(number), may_add);
         };
-        if place as usize != count {
-            return Ok(Some(place));
-        }
-        self.values.push_reserved(Some(number));
-        let crowded = is_crowded(&mut self.classes, Some(number), count);
-        self.put_in_order(crowded);
-        Ok(Some(place))
+        self.put_in_order(added.crowded);
+        Ok(Some(added.place))
     }
 
     /// The place of a value, which is added where it is new and may be added, or nothing where it
