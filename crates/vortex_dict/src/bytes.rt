@@ -140,16 +140,14 @@ fn more(dict_bytes: usize, count: usize) -> usize
     dict_bytes + count
 }
 
-/// The count with a value that has got a place: it is new where it comes behind the others.
+/// Counts a value that has got a place: it is new where it comes behind the others.
 #[inline(always)]
-fn count_after(dict_bytes: usize, count: usize, place: u32, len: usize) -> usize
-    requires { dict_bytes + count < 2 ^ 64 }
-    ensures { result ≡ cond (place == len) (dict_bytes + count) dict_bytes }
+fn count_value(dict_bytes: &mut usize, count: usize, place: u32, len: usize)
+    requires { dict_bytes.old + count < 2 ^ 64 }
+    ensures { dict_bytes.new ≡ cond (place == len) (dict_bytes.old + count) dict_bytes.old }
 {
     if place as usize == len {
-        more(dict_bytes, count)
-    } else {
-        dict_bytes
+        *dict_bytes = more(*dict_bytes, count);
     }
 }
 
@@ -254,7 +252,7 @@ impl<Code: CodeType, H: KeyHash> BytesDictEncoder<Code, H> {
         let Some(place) = self.lookup.find_or_add(key, &room)? else {
             return Ok(None);
         };
-        self.dict_bytes = count_after(self.dict_bytes, count_of(key), place, len);
+        count_value(&mut self.dict_bytes, count_of(key), place, len);
         Ok(code_at(place))
     }
 
@@ -280,7 +278,7 @@ impl<Code: CodeType, H: KeyHash> BytesDictEncoder<Code, H> {
         let mut codes = Vec::with_capacity(alloc, rows.len())?;
         for i in 0..rows.len() {
             match self.encode_value(rows.get(i)) {
-                Ok(Some(code)) => codes.push(code)?,
+                Ok(Some(code)) => codes.push_reserved(code),
                 Ok(None) => {
                     self.law();
                     return Ok(codes);
