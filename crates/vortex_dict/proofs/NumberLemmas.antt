@@ -2,9 +2,9 @@
 use Rattle.std.proofs.Common.{◌≡◌, ℕ, ◌+◌, ◌^◌, ◌<◌, inl, inr, Bool, true, false, true≢false, not}
 use Rattle.std.proofs.Common.{◌||◌, nat_le, ◌*◌, map, pos, ℤ, IsTrue, cond, Option, Some, None}
 use Rattle.std.proofs.Common.{List, [], ◌∷◌, ◌++◌, length, take, get_or, refl, ap, sym, subst, ◌∙◌}
-use Rattle.std.proofs.Common.{arith, mul-suc}
+use Rattle.std.proofs.Common.{arith, mul-suc, Ok, Err, ◌≤◌}
 use Rattle.std.specs.Bool.{Decides}
-use Rattle.std.specs.Option.{option_eq}
+use Rattle.std.specs.Option.{option_eq, unwrap_or, is_some}
 use Rattle.std.proofs.lemmas.Bool.{cases_lt}
 use Rattle.std.proofs.lemmas.List.{length-map, length-append, length-take-le, get_or_append_left}
 use Rattle.std.proofs.lemmas.List.{get_or-take, take_more}
@@ -13,7 +13,7 @@ use Rattle.std.proofs.Math.Seq.{get_or-append_seam}
 use Rattle.std.specs.declared.cmp.Ordering.{Ordering}
 use Rattle.std.specs.HashMap.{HashMap}
 use Rattle.std.specs.BTreeMap.{BTreeMap, get}
-use Rattle.vortex_codes.specs.Places.{place_of}
+use Rattle.vortex_codes.specs.Places.{place_of, with_key, code_in}
 use Rattle.vortex_codes.proofs.PlaceLemmas.{place_of-push, unplaced_in, none_in}
 use Rattle.std.specs.List.{sum_by}
 use Rattle.std.proofs.lemmas.List.Sums.{sum_by-cons}
@@ -22,11 +22,14 @@ use Rattle.vortex_terms.specs.Row.{Row}
 use Rattle.vortex_dict.specs.declared.constraints.DictConstraints.{DictConstraints}
 use Rattle.vortex_dict.specs.KeyRows.{number_or_null}
 use Rattle.vortex_dict.specs.Limits.{most_values, numbers_over}
-use Rattle.vortex_dict.specs.inner.Numbers.{place_found, HasPlaces}
+use Rattle.vortex_dict.specs.inner.Numbers.{place_in, place_found, HasPlaces}
 use Rattle.vortex_dict.proofs.ValueLemmas.{option_eq-Decides}
 
 abbrev Apart : {T : Type 0} → List (Option T) → Type 0
 Apart values = (c d : ℕ) → c < length values → d < length values → get_or values c None ≡ get_or values d None → c ≡ d
+
+ok_err : {X E : Type 0} (x : X) (e : E) → Ok x ≡ Err e → ⊥
+ok_err x e h = cc
 
 module _ {T : Type 0} (eq : T → T → Bool) (law : (x y : T) → Decides (eq x y) (x ≡ y)) where
   abbrev same : Option T → Option T → Bool
@@ -68,6 +71,79 @@ module _ {T : Type 0} (eq : T → T → Bool) (law : (x y : T) → Decides (eq x
         by : (q : Option T) → place_found eq cmp codes (Some m) null q ≡ place_of same q values
         by None = h.found None
         by (Some q) = i q
+
+  -- a look that left the map as it was
+  pub places_looked : {S : Type 0} (cmp : T → T → Ordering) (width : ℕ) (values : List (Option T)) (codes : HashMap T ℕ S) (ordered : Option (BTreeMap T ℕ)) (null : Option ℕ) → HasPlaces eq cmp width values codes ordered null → (values' : List (Option T)) (codes' : HashMap T ℕ S) → values' ≡ values
+      → ((q : T) → place_in eq cmp codes' None q ≡ place_in eq cmp codes None q) → HasPlaces eq cmp width values' codes' ordered null
+  places_looked cmp width values codes ordered null h values' codes' s i = places_stay cmp width values values' codes codes' ordered ordered null null h s (by ordered)
+    where
+      by : (o : Option (BTreeMap T ℕ)) → (q : Option T) → place_found eq cmp codes' o null q ≡ place_found eq cmp codes o null q
+      by o None = refl
+      by None (Some q) = i q
+      by (Some m) (Some q) = refl
+
+  -- a look that finds a value or adds it
+  module _ {S : Type 0} (cmp : T → T → Ordering) (width : ℕ) (values : List (Option T)) (codes : HashMap T ℕ S) (ordered : Option (BTreeMap T ℕ)) (null : Option ℕ) (v : T) (h : HasPlaces eq cmp width values codes ordered null) (by_hash : ordered ≡ None) where
+    looked : place_in eq cmp codes None v ≡ place_of same (Some v) values
+    looked = ap (λ o. place_found eq cmp codes o null (Some v)) (sym by_hash) ∙ h.found (Some v)
+
+    abbrev keep : Option ℕ → List (Option T)
+    keep o = cond (is_some o) values (values ++ Some v ∷ [])
+
+    abbrev seen : T → Option ℕ
+    seen q = place_in eq cmp codes None q
+
+    module _ (place : ℕ) (e : place ≡ unwrap_or (place_in eq cmp codes None v) (length values)) (values' : List (Option T)) (s : values' ≡ cond (is_some (place_in eq cmp codes None v)) values (values ++ Some v ∷ [])) (may : Bool)
+        (new : place_in eq cmp codes None v ≡ None → (may ≡ true) × (width * (length values + 1) < 2 ^ 32) × (length values + 1 < 2 ^ 32)) where
+      pub one_value : Some place ≡ cond may (Some (code_in same values (Some v))) (place_of same (Some v) values)
+      one_value = by (seen v) refl
+        where
+          code : place ≡ code_in same values (Some v)
+          code = e ∙ ap (λ o. unwrap_or o (length values)) looked
+
+          kept : (c : ℕ) → place_of same (Some v) values ≡ Some c → (b : Bool) → Some place ≡ cond b (Some (code_in same values (Some v))) (place_of same (Some v) values)
+          kept c f true = ap (λ n. Some n) code
+          kept c f false = ap (λ n. Some n) (code ∙ ap (λ o. unwrap_or o (length values)) f) ∙ sym f
+
+          by : (o : Option ℕ) → seen v ≡ o → Some place ≡ cond may (Some (code_in same values (Some v))) (place_of same (Some v) values)
+          by None f = ap (λ n. Some n) code ∙ sym (ap (λ b. cond b (Some (code_in same values (Some v))) (place_of same (Some v) values)) (new f).0)
+          by (Some c) f = kept c (sym looked ∙ f) may
+
+      pub one_values : values' ≡ cond may (with_key same values (Some v)) values
+      one_values = by (seen v) refl
+        where
+          kept : (c : ℕ) → place_of same (Some v) values ≡ Some c → (b : Bool) → values ≡ cond b (with_key same values (Some v)) values
+          kept c f true = sym (ap keep f)
+          kept c f false = refl
+
+          by : (o : Option ℕ) → seen v ≡ o → values' ≡ cond may (with_key same values (Some v)) values
+          by None f = s ∙ ap keep f ∙ sym (ap (λ b. cond b (with_key same values (Some v)) values) (new f).0 ∙ ap keep (sym looked ∙ f))
+          by (Some c) f = s ∙ ap keep f ∙ kept c (sym looked ∙ f) may
+
+      pub one_too_large : {X E : Type 0} (x : X) (error : E) → (Ok x ≡ Err error → IsTrue may × (place_of same (Some v) values ≡ None) × (2 ^ 32 ≤ width * (length values + 1))) × (IsTrue may × (place_of same (Some v) values ≡ None) × (2 ^ 32 ≤ width * (length values + 1)) → Ok x ≡ Err error)
+      one_too_large x error = (λ h. absurd (ok_err x error h), λ p. absurd (let few = (new (looked ∙ p.1)).1 in let most = p.2 in omega (arith, few, most)))
+
+      pub one_places : (codes' : HashMap T ℕ S) → ((q : T) → place_in eq cmp codes' None q ≡ cond (eq v q) (Some (unwrap_or (place_in eq cmp codes None v) (length values))) (place_in eq cmp codes None q)) → HasPlaces eq cmp width values' codes' ordered null
+      one_places codes' i = by (seen v) refl
+        where
+          stays : (c : ℕ) → seen v ≡ Some c → (q : T) → (b : Bool) → eq v q ≡ b → cond (eq v q) (Some (unwrap_or (place_in eq cmp codes None v) (length values))) (place_in eq cmp codes None q) ≡ place_in eq cmp codes None q
+          stays c f q true t = ap (λ b. cond b (Some (unwrap_or (seen v) (length values))) (seen q)) t ∙ ap (λ o. Some (unwrap_or o (length values))) f ∙ sym f ∙ ap seen ((law v q).0 t)
+          stays c f q false t = ap (λ b. cond b (Some (unwrap_or (seen v) (length values))) (seen q)) t
+
+          old_found : (c : ℕ) → seen v ≡ Some c → (q : Option T) → place_found eq cmp codes' ordered null q ≡ place_found eq cmp codes ordered null q
+          old_found c f None = refl
+          old_found c f (Some q) = rw by_hash (i q ∙ stays c f q (eq v q) refl)
+
+          new_found : (q : Option T) → place_found eq cmp codes' ordered null q ≡ cond (same (Some v) q) (Some place) (place_found eq cmp codes ordered null q)
+          new_found None = refl
+          new_found (Some q) = rw by_hash (i q ∙ ap (λ n. cond (eq v q) (Some n) (place_in eq cmp codes None q)) (sym e))
+
+          by : (o : Option ℕ) → seen v ≡ o → HasPlaces eq cmp width values' codes' ordered null
+          by None f =
+              let last : place ≡ length values = e ∙ ap (λ o. unwrap_or o (length values)) f in
+              let room = new f in
+              places_more cmp width values values' codes codes' ordered ordered null null (Some v) place h (sym looked ∙ f) (s ∙ ap keep f) last (rw last room.2) (rw last room.1) new_found
+          by (Some c) f = places_stay cmp width values values' codes codes' ordered ordered null null h (s ∙ ap keep f) (old_found c f)
 
   some_is : (a b : Option T) → Some a ≡ Some b → a ≡ b
   some_is a b h = cc

@@ -114,33 +114,40 @@ fn counts_more(most: usize, first: usize, second: usize) -> bool
 
 /// What a new value is tested against.
 #[derive(Drop)]
-struct Room<Code: CodeType> {
+struct Room<'a, Code: CodeType> {
     len: usize,
     dict_bytes: usize,
-    constraints: DictConstraints,
+    constraints: &'a DictConstraints,
     code: PhantomData<Code>,
 }
 
-impl<Code: CodeType> MayAdd for Room<Code> {
-    ghost allows = { λ s key. not (over_by Code.format s.constraints s.len s.dict_bytes
+impl<'a, Code: CodeType> MayAdd for Room<'a, Code> {
+    ghost allows = { λ s key. not (over_by Code.format s.constraints.now s.len s.dict_bytes
         (bytes_or_null key)) };
 
     #[inline(always)]
     fn may_add(&self, key: Option<&[u8]>) -> bool {
-        !is_over::<Code>(self.len, self.dict_bytes, &self.constraints, key)
+        !is_over::<Code>(self.len, self.dict_bytes, self.constraints, key)
     }
 }
 
-/// The count with a value that has got a place: it is new where it comes behind the others.
-#[inline(always)]
-fn count_after(dict_bytes: usize, count: usize, place: u32, len: usize) -> usize
+/// The sum of two counts. A call of its own, so that the rows of known values do not pay for it.
+#[inline(never)]
+fn more(dict_bytes: usize, count: usize) -> usize
     requires { dict_bytes + count < 2 ^ 64 }
-    ensures { result ≡ cond (place == len) (dict_bytes + count) dict_bytes }
+    ensures { result ≡ dict_bytes + count }
+{
+    dict_bytes + count
+}
+
+/// Counts a value that has got a place: it is new where it comes behind the others.
+#[inline(always)]
+fn count_value(dict_bytes: &mut usize, count: usize, place: u32, len: usize)
+    requires { dict_bytes.old + count < 2 ^ 64 }
+    ensures { dict_bytes.new ≡ cond (place == len) (dict_bytes.old + count) dict_bytes.old }
 {
     if place as usize == len {
-        dict_bytes + count
-    } else {
-        dict_bytes
+        *dict_bytes = more(*dict_bytes, count);
     }
 }
 
@@ -236,16 +243,16 @@ impl<Code: CodeType, H: KeyHash> BytesDictEncoder<Code, H> {
     {
         let len = self.lookup.len();
         let _size = self.lookup.byte_len();
-        let room = Room::<Code> {
+        let room = Room::<'_, Code> {
             len,
             dict_bytes: self.dict_bytes,
-            constraints: self.constraints,
+            constraints: &self.constraints,
             code: PhantomData,
         };
         let Some(place) = self.lookup.find_or_add(key, &room)? else {
             return Ok(None);
         };
-        self.dict_bytes = count_after(self.dict_bytes, count_of(key), place, len);
+        count_value(&mut self.dict_bytes, count_of(key), place, len);
         Ok(code_at(place))
     }
 
@@ -271,7 +278,7 @@ impl<Code: CodeType, H: KeyHash> BytesDictEncoder<Code, H> {
         let mut codes = Vec::with_capacity(alloc, rows.len())?;
         for i in 0..rows.len() {
             match self.encode_value(rows.get(i)) {
-                Ok(Some(code)) => codes.push(code)?,
+                Ok(Some(code)) => codes.push_reserved(code),
                 Ok(None) => {
                     self.law();
                     return Ok(codes);

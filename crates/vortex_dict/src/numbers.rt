@@ -2,10 +2,11 @@
 
 ghost use Rattle.std.specs.Prelude.{◌≡◌, ℕ, ◌+◌, ◌*◌, ◌^◌, ◌<◌, ◌≤◌, ◌↔◌, [], ◌∷◌, ◌++◌, length};
 ghost use Rattle.std.specs.Prelude.{get_or, IfErr, IfOk, OnOk, OnErr, Err, Some, None, IsTrue};
+ghost use Rattle.std.specs.Prelude.{IfSome, IfNone, OnSome, vec_len, vec_capacity};
 ghost use Rattle.std.specs.Prelude.{Option, cond, if◌then◌else◌};
 ghost use Rattle.std.specs.BTreeMap.{get};
 ghost use Rattle.std.specs.List.{IsDistinct};
-ghost use Rattle.std.specs.Option.{option_eq};
+ghost use Rattle.std.specs.Option.{option_eq, unwrap_or, is_some};
 ghost use Rattle.vortex_number.specs.PType.{byte_width_of};
 ghost use Rattle.vortex_codes.specs.Places.{place_of, with_key, code_in};
 ghost use Rattle.vortex_codes.specs.Refusals.{IsOfSize};
@@ -13,8 +14,9 @@ ghost use Rattle.vortex_dict.specs.inner.Numbers.{place_in, place_found, HasPlac
 
 use crate::native_value::NativeValue;
 use std::alloc::{AllocError, Global};
+use std::collections::hash_map::Entry;
 use std::collections::{BTreeMap, HashMap};
-use std::hash::{FoldHasher, Hash, Hasher};
+use std::hash::BuildHasher;
 use std::marker::Model;
 use vortex_codes::DictError;
 
@@ -59,32 +61,61 @@ const CLASSES: usize = 4096;
 /// So many values in one class are no sign of values that were chosen to collide.
 const FEW: usize = 64;
 
-/// Counts a new value, and tells whether its class is crowded. The first few values are not
-/// counted.
-fn is_crowded<T: NativeValue>(
+/// The class of a value's hash. It is the hash that the map finds the value by.
+#[inline(always)]
+fn class_of<T: NativeValue>(codes: &HashMap<T, u32>, value: T) -> usize
+    ensures { result < 4096 }
+{
+    let hash = codes.hasher().hash_one(value);
+    ((hash ^ (hash >> 32)) & (CLASSES as u64 - 1)) as usize
+}
+
+/// Makes the classes where there are none, and tells whether there are some.
+#[inline(always)]
+fn are_counted(classes: &mut Vec<u32>) -> bool
+    ensures { IsTrue result → length classes.new.items ≡ 4096 }
+{
+    if classes.len() == CLASSES {
+        return true;
+    }
+    let alloc = *classes.allocator();
+    match vec![in alloc; 0u32; CLASSES] {
+        Ok(made) => {
+            *classes = made;
+            true
+        }
+        Err(_) => false,
+    }
+}
+
+/// Counts a new value in its class, and tells whether that is crowded. The first few values are not
+/// counted, nor any for which there is no memory.
+#[inline(always)]
+fn is_crowded(classes: &mut Vec<u32>, class: usize, count: usize) -> bool
+    requires { class < 4096 }
+{
+    if count < FEW {
+        return false;
+    }
+    if !are_counted(classes) {
+        return false;
+    }
+    let size = classes[class].wrapping_add(1);
+    classes[class] = size;
+    size as usize > FEW + count / (CLASSES / 2)
+}
+
+/// The same of a value or null, which has no class.
+fn is_in_crowd<T: NativeValue>(
     classes: &mut Vec<u32>,
+    codes: &HashMap<T, u32>,
     value: Option<T>,
     count: usize,
-) -> Result<bool, AllocError> {
+) -> bool {
     let Some(value) = value else {
-        return Ok(false);
+        return false;
     };
-    if count < FEW {
-        return Ok(false);
-    }
-    if classes.len() < CLASSES {
-        let alloc = *classes.allocator();
-        *classes = vec![in alloc; 0u32; CLASSES]?;
-    }
-    let mut hasher = FoldHasher::default();
-    value.hash(&mut hasher);
-    let hash = hasher.finish();
-    let class = ((hash ^ (hash >> 32)) & (CLASSES as u64 - 1)) as usize;
-    let Some(size) = classes.get_mut(class) else {
-        return Ok(false);
-    };
-    *size = size.saturating_add(1);
-    Ok(*size as usize > FEW + count / (CLASSES / 2))
+    is_crowded(classes, class_of(codes, value), count)
 }
 
 /// The place that the maps have for a value.
@@ -166,12 +197,91 @@ fn order_of<T: NativeValue>(
 }
 
 /// Whether a value of this width may come behind so many others.
+#[inline(always)]
 fn has_room(width: usize, count: usize) -> bool
     requires width { width ≤ 8 }
     requires few { count < 2 ^ 32 }
     ensures { IsTrue result ↔ (width * (count + 1) < 2 ^ 32) }
 {
     width * (count + 1) <= u32::MAX as usize
+}
+
+/// Makes room for a value of this width behind the others, and tells whether there is some.
+#[inline(always)]
+fn has_place<T: NativeValue>(values: &mut Vec<Option<T>>, width: usize) -> bool
+    requires width { width ≤ 8 }
+    requires few { length values.old.items < 2 ^ 32 }
+    ensures stays { values.new.items ≡ values.old.items }
+    ensures room { IsTrue result → vec_len values.new < vec_capacity values.new }
+    ensures small { IsTrue result → width * (length values.old.items + 1) < 2 ^ 32 }
+    ensures few { IsTrue result → length values.old.items + 1 < 2 ^ 32 }
+{
+    let count = values.len();
+    has_room(width, count) && count < u32::MAX as usize && values.reserve(1).is_ok()
+}
+
+/// One look at the map, where values are found by it: the place of a value, which is put behind the
+/// others where it is new, may be added, and there is room. Nothing tells that another look is
+/// wanted.
+#[inline(always)]
+fn look<T: NativeValue>(
+    codes: &mut HashMap<T, u32>,
+    ordered: &Option<BTreeMap<T, u32>>,
+    values: &mut Vec<Option<T>>,
+    classes: &mut Vec<u32>,
+    value: T,
+    width: usize,
+    may_add: bool,
+) -> Option<Added>
+    requires width { width ≤ 8 }
+    requires few { length values.old.items < 2 ^ 32 }
+    ensures by_hash { OnSome result (ordered.now ≡ None) }
+    ensures place { IfSome result (λ a. a.place ≡ unwrap_or
+        (place_in T.eq T.cmp codes.old None value) (length values.old.items)) }
+    ensures inserted { OnSome result ((v : T) → place_in T.eq T.cmp codes.new None v
+        ≡ cond (T.eq value v) (Some (unwrap_or
+        (place_in T.eq T.cmp codes.old None value) (length values.old.items)))
+        (place_in T.eq T.cmp codes.old None v)) }
+    ensures stays { IfNone result ((v : T) → place_in T.eq T.cmp codes.new None v
+        ≡ place_in T.eq T.cmp codes.old None v) }
+    ensures same { IfNone result (values.new.items ≡ values.old.items) }
+    ensures values { OnSome result (values.new.items
+        ≡ cond (is_some (place_in T.eq T.cmp codes.old None value)) values.old.items
+        (values.old.items ++ Some value ∷ [])) }
+    ensures new { OnSome result (place_in T.eq T.cmp codes.old None value ≡ None
+        → IsTrue may_add × (width * (length values.old.items + 1) < 2 ^ 32)
+        × (length values.old.items + 1 < 2 ^ 32)) }
+{
+    if ordered.is_some() {
+        return None;
+    }
+    let class = class_of(codes, value);
+    match codes.entry(value) {
+        Ok(Entry::Occupied(entry)) => {
+            let place = *entry.get();
+            Some(Added {
+                place,
+                crowded: false,
+            })
+        }
+        Ok(Entry::Vacant(entry)) => {
+            let count = values.len();
+            if !may_add {
+                let _value = entry.into_key();
+                return None;
+            }
+            if !has_place(values, width) {
+                let _value = entry.into_key();
+                return None;
+            }
+            let place = count as u32;
+            let _code = entry.insert(place);
+            values.push_reserved(Some(value));
+            let crowded = is_crowded(classes, class, count);
+            Some(Added { place, crowded })
+        }
+        Err(_) => None,
+    }
 }
 
 impl<T: NativeValue> Numbers<T> {
@@ -238,7 +348,6 @@ impl<T: NativeValue> Numbers<T> {
             return Err(DictError::OutOfMemory);
         }
         self.values.reserve(1)?;
-        let crowded = is_crowded(&mut self.classes, value, count)?;
         let place = count as u32;
         insert(
             &mut self.codes,
@@ -248,20 +357,80 @@ impl<T: NativeValue> Numbers<T> {
             place,
         )?;
         self.values.push_reserved(value);
+        let crowded = is_in_crowd(&mut self.classes, &self.codes, value, count);
         Ok(Added { place, crowded })
     }
 
-    /// Finds values by their order from here on, where memory allows.
-    fn put_in_order(&mut self)
+    /// Finds values by their order from here on where a class is crowded, and memory allows.
+    #[inline(always)]
+    fn put_in_order(&mut self, crowded: bool)
         ensures { self.new ≡ self.old }
     {
-        if self.ordered.is_some() {
+        if !crowded || self.ordered.is_some() {
             return;
         }
         let alloc = *self.values.allocator();
         if let Ok(ordered) = order_of(alloc, self.values.as_slice()) {
             self.ordered = Some(ordered);
         }
+    }
+
+    /// The same as `find_or_add`, by a look and then another that adds.
+    #[inline(never)]
+    fn find_then_add(&mut self, value: Option<T>, may_add: bool) -> Result<Option<u32>, DictError>
+        ensures values { OnOk result (self.new ≡ (if may_add
+            then with_key (option_eq T.eq) self.old value else self.old)) }
+        ensures code { IfOk result (λ o. o ≡ (if may_add
+            then Some (code_in (option_eq T.eq) self.old value)
+            else place_of (option_eq T.eq) value self.old)) }
+        ensures stays { OnErr result (self.new ≡ self.old) }
+        ensures new { OnErr result (IsTrue may_add
+            × (place_of (option_eq T.eq) value self.old ≡ None)) }
+        ensures too_large { (result ≡ Err DictError.TooLarge)
+            ↔ (IsTrue may_add × (place_of (option_eq T.eq) value self.old ≡ None)
+            × (2 ^ 32 ≤ byte_width_of T.PTYPE * (length self.old + 1))) }
+        ensures errors { IfErr result (λ e. IsOfSize e) }
+    {
+        let found = self.place(value);
+        if found.is_some() || !may_add {
+            return Ok(found);
+        }
+        let added = self.add(value)?;
+        self.put_in_order(added.crowded);
+        Ok(Some(added.place))
+    }
+
+    /// The same of a value that is no null. Where values are found by their hash, and there is room
+    /// for one more, this takes one look.
+    #[inline(always)]
+    fn find_or_put(&mut self, number: T, may_add: bool) -> Result<Option<u32>, DictError>
+        ensures values { OnOk result (self.new ≡ (if may_add
+            then with_key (option_eq T.eq) self.old (Some number) else self.old)) }
+        ensures code { IfOk result (λ o. o ≡ (if may_add
+            then Some (code_in (option_eq T.eq) self.old (Some number))
+            else place_of (option_eq T.eq) (Some number) self.old)) }
+        ensures stays { OnErr result (self.new ≡ self.old) }
+        ensures new { OnErr result (IsTrue may_add
+            × (place_of (option_eq T.eq) (Some number) self.old ≡ None)) }
+        ensures too_large { (result ≡ Err DictError.TooLarge)
+            ↔ (IsTrue may_add × (place_of (option_eq T.eq) (Some number) self.old ≡ None)
+            × (2 ^ 32 ≤ byte_width_of T.PTYPE * (length self.old + 1))) }
+        ensures errors { IfErr result (λ e. IsOfSize e) }
+    {
+        let width = T::PTYPE.byte_width();
+        let Some(added) = look(
+            &mut self.codes,
+            &self.ordered,
+            &mut self.values,
+            &mut self.classes,
+            number,
+            width,
+            may_add,
+        ) else {
+            return self.find_then_add(Some(number), may_add);
+        };
+        self.put_in_order(added.crowded);
+        Ok(Some(added.place))
     }
 
     /// The place of a value, which is added where it is new and may be added, or nothing where it
@@ -285,14 +454,9 @@ impl<T: NativeValue> Numbers<T> {
             × (2 ^ 32 ≤ byte_width_of T.PTYPE * (length self.old + 1))) }
         ensures errors { IfErr result (λ e. IsOfSize e) }
     {
-        let found = self.place(value);
-        if found.is_some() || !may_add {
-            return Ok(found);
+        match value {
+            Some(number) => self.find_or_put(number, may_add),
+            None => self.find_then_add(None, may_add),
         }
-        let added = self.add(value)?;
-        if added.crowded {
-            self.put_in_order();
-        }
-        Ok(Some(added.place))
     }
 }

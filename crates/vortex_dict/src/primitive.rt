@@ -32,14 +32,12 @@ fn most_len(width: usize, constraints: &DictConstraints) -> usize
     constraints.max_len.min(constraints.max_bytes / width)
 }
 
-/// Whether a new value is over a limit, beside so many others.
+/// Whether a new value is over a limit, beside so many others, where there may be so many at most.
 #[inline(always)]
-fn is_full<Code: CodeType>(width: usize, len: usize, constraints: &DictConstraints) -> bool
-    requires { 0 < width }
-    ensures { result ≡ (not (fits Code.format (pos len))
-        || nat_le (most_values width constraints.now) len) }
+fn is_full<Code: CodeType>(most: usize, len: usize) -> bool
+    ensures { result ≡ (not (fits Code.format (pos len)) || nat_le most len) }
 {
-    !has_code::<Code>(len) || most_len(width, constraints) <= len
+    !has_code::<Code>(len) || most <= len
 }
 
 /// Makes rows of whole numbers into values and codes, over as many columns as are handed in one
@@ -113,9 +111,10 @@ impl<T: NativeValue, Code: CodeType> PrimitiveDictEncoder<T, Code> {
     }
 
     /// The code of a value, which is added where it is new, or nothing where it is new and over a
-    /// limit.
+    /// limit. `most` is how many values there may be.
     #[inline(always)]
-    fn encode_value(&mut self, value: Option<T>) -> Result<Option<Code>, DictError>
+    fn encode_value(&mut self, value: Option<T>, most: usize) -> Result<Option<Code>, DictError>
+        requires { most ≡ most_values (byte_width_of T.PTYPE) self.old.constraints }
         ensures encoded { IfOk result (λ o. EncodesValue
             (numbers_over Code.format (byte_width_of T.PTYPE) self.old.constraints) self.old.values
             (number_or_null T.number value) self.new.values
@@ -132,7 +131,7 @@ impl<T: NativeValue, Code: CodeType> PrimitiveDictEncoder<T, Code> {
         ensures errors { IfErr result (λ e. IsOfSize e) }
     {
         let len = self.lookup.len();
-        let over = is_full::<Code>(T::PTYPE.byte_width(), len, &self.constraints);
+        let over = is_full::<Code>(most, len);
         let Some(place) = self.lookup.find_or_add(value, !over)? else {
             return Ok(None);
         };
@@ -165,9 +164,10 @@ impl<T: NativeValue, Code: CodeType> PrimitiveDictEncoder<T, Code> {
     {
         self.law();
         let mut codes = Vec::with_capacity(alloc, rows.len())?;
+        let most = most_len(T::PTYPE.byte_width(), &self.constraints);
         for i in 0..rows.len() {
-            match self.encode_value(rows.get(i)) {
-                Ok(Some(code)) => codes.push(code)?,
+            match self.encode_value(rows.get(i), most) {
+                Ok(Some(code)) => codes.push_reserved(code),
                 Ok(None) => {
                     self.law();
                     return Ok(codes);

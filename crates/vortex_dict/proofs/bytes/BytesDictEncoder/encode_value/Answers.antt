@@ -37,8 +37,8 @@ returns-clause-encoded g c =
     let fit = code_fits same_key bytes_or_null fmt ks k c.self.invariant.coded is_over (λ o. bytes_fit fmt c.self.inside.constraints _ (bytes_or_null k) (sym over ∙ o)) c.in-Some.place place in
     rw (← c.self.view_is) (with_code _ _ _ _ _ _ (step same_key same_key-Decides bytes_or_null bytes_apart (bytes_over fmt c.self.inside.constraints) ks k (not is_over) (ap not over) c.find_or_add.new.self (Some c.in-Some.place) c.in_ok-place.ensures.keys place) (coded _ _ _ c.code_at.ensures fit))
 
-pub count_after-self-inside-requires : goal.count_after-self-inside-requires
-count_after-self-inside-requires g c =
+pub count_value-requires : goal.count_value-requires
+count_value-requires g c =
     let rows = map bytes_or_null c.self.inside.lookup in
     let bound = counted_bound rows in
     let count = length-map c.self.inside.lookup bytes_or_null in
@@ -55,6 +55,6 @@ invariant_of-self-2 g c =
     let over = over_is fmt c.self.inside.constraints ks k is_over _ _ refl c.len-len.ensures.count c.self.invariant.count_is in
     let place = sym c.in-Some.is ∙ c.in_ok-place.ensures.code in
     record {
-      count_is = count_more ks k is_over before c.self.invariant.count_is c.find_or_add.new.self c.in-Some.place _ c.in_ok-place.ensures.keys place (c.count_after-self-inside.ensures ∙ ap (λ m. cond (c.in-Some.place == m) (before + c.count_of.result) before) c.len-len.ensures.count ∙ ap (λ m. cond (c.in-Some.place == length ks) (before + m) before) c.count_of.ensures.value);
+      count_is = count_more ks k is_over before c.self.invariant.count_is c.find_or_add.new.self c.in-Some.place _ c.in_ok-place.ensures.keys place (c.count_value.ensures ∙ ap (λ m. cond (c.in-Some.place == m) (before + c.count_of.result) before) c.len-len.ensures.count ∙ ap (λ m. cond (c.in-Some.place == length ks) (before + m) before) c.count_of.ensures.value);
       coded = codes_more same_key bytes_or_null fmt ks k c.self.invariant.coded is_over (λ o. bytes_fit fmt c.self.inside.constraints _ (bytes_or_null k) (sym over ∙ o)) c.find_or_add.new.self c.in_ok-place.ensures.keys;
     }

@@ -1,4 +1,4 @@
-use Rattle.std.proofs.Common.{refl, ◌≡◌, ◌+◌, [], ◌∷◌, ap, ◌∙◌, arith, Result, Ok, Err, OnErr, map}
+use Rattle.std.proofs.Common.{refl, ◌≡◌, ◌≤◌, ◌+◌, [], ◌∷◌, ap, ◌∙◌, sym, subst, arith, Result, Ok, Err, OnErr, map}
 use Rattle.std.proofs.Common.{length, suc, ◌*◌, mul-suc}
 use Rattle.std.proofs.lemmas.List.{length-map, map-append}
 use Rattle.vortex_number.specs.PType.{byte_width_of}
@@ -25,9 +25,6 @@ returns-in_err-codes-clause-part g c =
     let rows = map (number_or_null g.T.WholeNumber.number) c.args.rows.now in
     on_err c.from_residual.result (part over held rows 0 held [] (start over held rows c.law.ensures.distinct) held refl (omega arith))
 
-pub returns-in_err-push-in-Ok-Some-clause-part : goal.returns-in_err-push-in-Ok-Some-clause-part
-returns-in_err-push-in-Ok-Some-clause-part g c = on_err c.from_residual-in_err-push-in-Ok-Some.result (part_by (numbers_over g.Code.WholeNumber.format (byte_width_of g.T.NativePType.PTYPE) c.args.self.now.constraints) _ _ _ _ _ c.loop-i.invariant.0 _ _ (got (number_or_null g.T.WholeNumber.number) c.args.rows.now c.loop-i.i _ null_row c.get.ensures) (let n = length-map c.args.rows.now (number_or_null g.T.WholeNumber.number) in omega (arith, n, c.loop-i-test.true, c.len-i-end.ensures)) _ (rw (c.loop-i.invariant.1, c.in-Ok-Some.field-0-is) at c.in-Ok-Some.ensures.encoded))
-
 pub returns-in-Ok-None-clause-encoded : goal.returns-in-Ok-None-clause-encoded
 returns-in-Ok-None-clause-encoded g c = stops_by (numbers_over g.Code.WholeNumber.format (byte_width_of g.T.NativePType.PTYPE) c.args.self.now.constraints) _ _ _ _ _ c.loop-i.invariant.0 _ _ (got (number_or_null g.T.WholeNumber.number) c.args.rows.now c.loop-i.i _ null_row c.get.ensures) (let n = length-map c.args.rows.now (number_or_null g.T.WholeNumber.number) in omega (arith, n, c.loop-i-test.true, c.len-i-end.ensures)) (rw (c.loop-i.invariant.1, c.in-Ok-None.field-0-is) at c.in-Ok-None.ensures.encoded)
 
@@ -45,5 +42,5 @@ returns-in-Err-clause-too_large g c = λ h. too_large (numbers_over g.Code.Whole
 pub loop-i-preserved : goal.loop-i-preserved
 loop-i-preserved g c =
     let number = code_number g.Code.WholeNumber.number in
-    let codes = ap (map number) c.in_ok-push-in-Ok-Some.ensures.items ∙ map-append number c.loop-i.codes.items (c.in-Ok-Some.code ∷ []) in
-    (rw codes (more_by (numbers_over g.Code.WholeNumber.format (byte_width_of g.T.NativePType.PTYPE) c.args.self.now.constraints) _ _ _ _ _ c.loop-i.invariant.0 _ _ (got (number_or_null g.T.WholeNumber.number) c.args.rows.now c.loop-i.i _ null_row c.get.ensures) (let n = length-map c.args.rows.now (number_or_null g.T.WholeNumber.number) in omega (arith, n, c.loop-i-test.true, c.len-i-end.ensures)) _ (rw (c.loop-i.invariant.1, c.in-Ok-Some.field-0-is) at c.in-Ok-Some.ensures.encoded)), c.encode_value.ensures.constraints ∙ c.loop-i.invariant.1)
+    let codes = ap (map number) c.push_reserved.ensures.items ∙ map-append number c.loop-i.codes.items (c.in-Ok-Some.code ∷ []) in
+    (rw codes (more_by (numbers_over g.Code.WholeNumber.format (byte_width_of g.T.NativePType.PTYPE) c.args.self.now.constraints) _ _ _ _ _ c.loop-i.invariant.0 _ _ (got (number_or_null g.T.WholeNumber.number) c.args.rows.now c.loop-i.i _ null_row c.get.ensures) (let n = length-map c.args.rows.now (number_or_null g.T.WholeNumber.number) in omega (arith, n, c.loop-i-test.true, c.len-i-end.ensures)) _ (rw (c.loop-i.invariant.1, c.in-Ok-Some.field-0-is) at c.in-Ok-Some.ensures.encoded)), c.encode_value.ensures.constraints ∙ c.loop-i.invariant.1, subst (λ n. length c.args.rows.now ≤ n) (sym c.push_reserved.ensures.capacity) c.loop-i.invariant.2)
