@@ -4,7 +4,7 @@ use Rattle.vortex_terms.specs.Row.{null_row}
 use Rattle.vortex_dict.specs.KeyRows.{bytes_or_null}
 use Rattle.vortex_dict.specs.Encoding.{code_number}
 use Rattle.vortex_dict.specs.Limits.{bytes_over, byte_count}
-use Rattle.vortex_dict.proofs.EncodingLemmas.{more_by, ends, stops_by, part_by, too_large}
+use Rattle.vortex_dict.proofs.EncodingLemmas.{more_by, ends, stops_by, too_large}
 use Rattle.vortex_dict.proofs.SizeLemmas.{not_too_large}
 use Rattle.vortex_dict.proofs.ValueLemmas.{err_is}
 use Rattle.vortex_dict.proofs.SliceLemmas.{got}

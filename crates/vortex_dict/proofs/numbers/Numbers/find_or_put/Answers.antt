@@ -1,5 +1,5 @@
 use Rattle.std.proofs.Common.{◌≡◌, ℕ, ◌+◌, ◌*◌, ◌^◌, ◌<◌, ◌∙◌, length, ap, subst, Bool, true, List}
-use Rattle.std.proofs.Common.{Option, None, Some}
+use Rattle.std.proofs.Common.{Option, None}
 use Rattle.vortex_number.specs.PType.{byte_width_of}
 use Rattle.vortex_dict.specs.inner.Numbers.{place_in}
 use Rattle.vortex_dict.proofs.NumberLemmas.{one_value, one_values, one_too_large, one_places}

@@ -6,7 +6,7 @@ use Rattle.vortex_terms.specs.Row.{null_row}
 use Rattle.vortex_dict.specs.KeyRows.{number_or_null}
 use Rattle.vortex_dict.specs.Encoding.{code_number}
 use Rattle.vortex_dict.specs.Limits.{numbers_over}
-use Rattle.vortex_dict.proofs.EncodingLemmas.{start, part, more_by, ends, stops_by, part_by}
+use Rattle.vortex_dict.proofs.EncodingLemmas.{start, part, more_by, ends, stops_by}
 use Rattle.vortex_dict.proofs.EncodingLemmas.{too_large}
 use Rattle.vortex_dict.proofs.SizeLemmas.{not_too_large}
 use Rattle.vortex_dict.proofs.NumberLemmas.{sum_widths}
